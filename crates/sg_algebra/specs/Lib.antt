@@ -1,1 +1,3 @@
 pub mod Divisor
+pub mod Ring
+pub mod Coefficients

@@ -1,0 +1,10 @@
+use Rattle.sg_num.proofs.Terms.{quotient-positive, quotients-coprime}
+use Rattle.sg_num.proofs.rat.Rat.reduced.Goals as goal
+
+pub lowest-requires-clause-positive : goal.lowest-requires-clause-positive
+lowest-requires-clause-positive c =
+    quotient-positive c.unsigned_abs-size.result c.args.den c.gcd_of-common.result c.gcd_of-common.ensures.value c.requires.positive
+
+pub lowest-requires-clause-coprime : goal.lowest-requires-clause-coprime
+lowest-requires-clause-coprime c =
+    quotients-coprime c.unsigned_abs-size.result c.args.den c.gcd_of-common.result c.gcd_of-common.ensures.value c.requires.positive

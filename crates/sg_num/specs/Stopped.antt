@@ -1,0 +1,16 @@
+-- Why a computing call may stop.
+--   IsTooWide        a kept step doesn't fit
+--   KeepsWideStep    a call stopped for want of memory, which is free, or at a kept step that doesn't fit
+use Rattle.std.specs.Prelude.{IsTrue}
+use Rattle.sg_num.specs.Value.{fraction}
+use Rattle.sg_num.specs.Steps.{fits_step}
+use Rattle.sg_num.specs.declared.step.Wide.{Wide}
+use Rattle.sg_num.specs.declared.step.Stop.{Stop}
+use Rattle.sg_num.specs.declared.step.Stop.TheVariants.{Memory, Wide as WideStep}
+
+abbrev pub IsTooWide : Wide → Type 0
+IsTooWide w = IsTrue (fits_step w.op (fraction w.left) (fraction w.right)) → ⊥
+
+abbrev pub KeepsWideStep : Stop → Type 0
+KeepsWideStep (Memory e) = Unit {0}
+KeepsWideStep (WideStep w) = IsTooWide w

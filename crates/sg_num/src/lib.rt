@@ -1,0 +1,10 @@
+//! Fractions in lowest terms of 128-bit numbers, whose every step is exact or refused, and lists.
+#![tactic(auto)]
+
+mod rat;
+mod row;
+mod step;
+
+pub use rat::Rat;
+pub use row::Row;
+pub use step::{Op, Stop, Wide};

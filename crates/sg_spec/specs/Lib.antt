@@ -2,5 +2,8 @@ pub mod Fraction
 pub mod Width
 pub mod Tree
 pub mod Value
+pub mod Grammar
+pub mod Syntax
+pub mod Reading
 pub mod Generators
 pub mod Closed

@@ -1,0 +1,2 @@
+//! The language of texts: which texts read as which expressions, and the reader.
+#![tactic(auto)]

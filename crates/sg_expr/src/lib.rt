@@ -1,0 +1,6 @@
+//! Expressions as trees of a program. `tree_of` (specs/Tree.antt) says which tree of the definitions an `Expr` stands for.
+#![tactic(auto)]
+
+mod tree;
+
+pub use tree::Expr;

@@ -1,4 +1,3 @@
-pub mod Divisor
 pub mod Ring
 pub mod Horner
 pub mod Normal
@@ -7,3 +6,8 @@ pub mod Whole
 pub mod Field
 pub mod FieldSolver
 mod Examples
+pub mod Divides
+pub mod Coprime
+pub mod Euclid
+pub mod WholeDivisors
+pub mod Divisor

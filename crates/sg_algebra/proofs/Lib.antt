@@ -9,5 +9,10 @@ mod Examples
 pub mod Divides
 pub mod Coprime
 pub mod Euclid
+pub mod Pull
+pub mod Series
+pub mod PolynomialRing
+pub mod Evaluation
+pub mod Derivative
 pub mod WholeDivisors
 pub mod Divisor

@@ -9,9 +9,9 @@ use Rattle.std.proofs.Common.{◌≡◌, map, ℕ, zero, suc, ◌+◌, ◌*◌, 
 use mathlib.Core.List.{cons≢nil}
 use lib.Dec.{eqb→eq}
 use Rattle.sg_algebra.specs.Ring.{Ring}
-use Rattle.sg_algebra.specs.Coefficients.{zip_longest, conv}
+use Rattle.sg_algebra.specs.Coefficients.{zip_longest, conv, horner}
 use Rattle.sg_algebra.proofs.Ring.{nat, pow, O_add, mul_O, mul_neg, neg_mul, neg_neg, neg_add, neg_O, add4, distrib_right, eq_of_sub, nat-add, nat-mul, pow_cong}
-use Rattle.sg_algebra.proofs.Horner.{horner, horner-zip, horner-neg, horner-conv}
+use Rattle.sg_algebra.proofs.Horner.{horner-zip, horner-neg, horner-conv}
 
 -- ---- Expressions and normal forms
 

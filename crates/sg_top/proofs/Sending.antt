@@ -1,0 +1,35 @@
+-- What a sink holds after a write fault.
+--   fault-answer    first bytes of an answer's text are first bytes of an answer
+use Rattle.std.proofs.Common.{◌≡◌, ℕ, ◌+◌, List, ◌++◌, take, drop, Option, Some, None, ap, sym, ◌∙◌, subst, append_assoc, length, ◌-◌, length-drop}
+use Rattle.std.proofs.Math.Seq.{take-add, take-length}
+use Rattle.std.proofs.lemmas.List.{take-append-drop}
+use Rattle.sg_io.specs.Bytes.{Appends}
+use Rattle.sg_top.specs.Answer.{IsAnswer, Tells, IsFrontOf}
+use Rattle.sg_top.specs.declared.status.Status.{Status}
+
+pub fault-answer : (words : List (List ℕ)) (status : Status) (text : List ℕ) (old new : Option (List ℕ)) → IsAnswer words status text
+    → Tells (IsFrontOf (λ whole. whole ≡ text)) old new → Tells (IsFrontOf (λ whole. (s : Status) × IsAnswer words s whole)) old new
+fault-answer words status text (Some old) (Some new) answer (bytes, e, (rest, whole)) =
+    (bytes, e, (rest, (status, subst (λ (t : List ℕ). IsAnswer words status t) (sym whole) answer)))
+fault-answer words status text (Some old) None answer t = absurd t
+fault-answer words status text None (Some new) answer t = absurd t
+fault-answer words status text None None answer t = tt
+
+-- two pieces after one another are one
+pub appends-more : (old mid new : Option (List ℕ)) (text : List ℕ) (n m : ℕ) → Appends old mid (take n text) → Appends mid new (take m (drop n text)) → Appends old new (take (n + m) text)
+appends-more (Some old) (Some mid) (Some new) text n m h k = k ∙ ap (λ (t : List ℕ). t ++ take m (drop n text)) h ∙ append_assoc old (take n text) (take m (drop n text)) ∙ ap (λ (t : List ℕ). old ++ t) (sym (take-add n m text))
+appends-more (Some old) (Some mid) None text n m h k = absurd k
+appends-more (Some old) None new text n m h k = absurd h
+appends-more None (Some mid) new text n m h k = absurd h
+appends-more None None (Some new) text n m h k = absurd k
+appends-more None None None text n m h k = tt
+
+pub front-of : (old new : Option (List ℕ)) (text : List ℕ) (n : ℕ) → Appends old new (take n text) → Tells (IsFrontOf (λ whole. whole ≡ text)) old new
+front-of (Some old) (Some new) text n h = (take n text, h, (drop n text, take-append-drop n text))
+front-of (Some old) None text n h = absurd h
+front-of None (Some new) text n h = absurd h
+front-of None None text n h = tt
+
+-- what is left from a place on, whole
+pub take-rest : (n : ℕ) (text : List ℕ) → take (length text - n) (drop n text) ≡ drop n text
+take-rest n text = rw (← length-drop n text) (take-length (drop n text))

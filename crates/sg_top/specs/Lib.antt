@@ -1,0 +1,4 @@
+pub mod Code
+pub mod Words
+pub mod Texts
+pub mod Answer

@@ -1,25 +1,27 @@
-ghost use Rattle.std.specs.Prelude.{◌≡◌, [], ◌∷◌, IfOk, map};
+ghost use Rattle.std.specs.Prelude.{◌≡◌, [], ◌∷◌, IfOk, IfErr, alloc_error, map};
 ghost use Rattle.std.specs.List.{list_any};
 ghost use Rattle.sg_spec.specs.Generators.{sums, prods, joined, all_sums, all_prods, same_tree};
 ghost use Rattle.sg_expr.specs.Tree.{tree_of};
 
 use crate::Expr;
-use sg_num::Row;
+use sg_num::{Row, Stop};
 use std::alloc::{AllocError, Global};
 
 impl Expr {
     /// The distinct sums from left to right, each after those of its body, and of equal ones the first. The error is want
     /// of memory.
-    pub fn sums_of(&self, alloc: Global) -> Result<Row<Expr>, AllocError>
-        ensures { IfOk result (λ list. map tree_of list ≡ sums (tree_of self.now ∷ [])) }
+    pub fn sums_of(&self, alloc: Global) -> Result<Row<Expr>, Stop>
+        ensures list { IfOk result (λ list. map tree_of list ≡ sums (tree_of self.now ∷ [])) }
+        ensures memory { IfErr result (λ e. e ≡ Stop.Memory alloc_error) }
     {
         let list = self.join_sums(alloc, Row::new(alloc))?;
         Ok(list)
     }
 
     /// The distinct products, in the same order. The error is want of memory.
-    pub fn prods_of(&self, alloc: Global) -> Result<Row<Expr>, AllocError>
-        ensures { IfOk result (λ list. map tree_of list ≡ prods (tree_of self.now ∷ [])) }
+    pub fn prods_of(&self, alloc: Global) -> Result<Row<Expr>, Stop>
+        ensures list { IfOk result (λ list. map tree_of list ≡ prods (tree_of self.now ∷ [])) }
+        ensures memory { IfErr result (λ e. e ≡ Stop.Memory alloc_error) }
     {
         let list = self.join_prods(alloc, Row::new(alloc))?;
         Ok(list)

@@ -6,3 +6,6 @@ mod parameter;
 mod tree;
 
 pub use tree::Expr;
+
+#[cfg(test)]
+mod tests;

@@ -1,4 +1,5 @@
 ghost use Rattle.std.specs.Prelude.{◌≡◌, ◌↔◌, IsTrue, IfOk};
+ghost use Rattle.sg_spec.specs.Generators.{same_tree};
 ghost use Rattle.sg_expr.specs.Tree.{tree_of};
 
 use std::alloc::{AllocError, Global};
@@ -26,7 +27,8 @@ pub enum Expr {
 impl Expr {
     /// Whether the trees are equal.
     pub fn same(&self, other: &Expr) -> bool
-        ensures { IsTrue result ↔ (tree_of self.now ≡ tree_of other.now) }
+        ensures equal { IsTrue result ↔ (tree_of self.now ≡ tree_of other.now) }
+        ensures decided { result ≡ same_tree (tree_of self.now) (tree_of other.now) }
     {
         match (self, other) {
             (Expr::Num(a), Expr::Num(b)) => a == b,

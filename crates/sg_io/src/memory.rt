@@ -1,11 +1,11 @@
-ghost use Rattle.std.specs.Prelude.{◌≡◌, ◌↔◌, ◌<◌, ◌≤◌, ◌==◌, [], Some, IfOk, IsErr, IsTrue, OnErr, OnOk, length, min, take};
+ghost use Rattle.std.specs.Prelude.{◌≡◌, ◌↔◌, ◌<◌, ◌≤◌, ◌==◌, [], Some, IfOk, IfErr, IsErr, IsTrue, OnErr, OnOk, alloc_error, length, min, take};
 ghost use Rattle.sg_io.specs.Bytes.{counted, Gives, Appends, Rose};
 ghost use Rattle.std.specs.List.{list_any};
 ghost use Rattle.sg_io.specs.Memory.{fails_next, refuses, taken, given, after_write, after_write_fault, after_read, after_read_fault};
 
 use crate::{Failed, Sink, Source};
-use sg_num::Row;
-use std::alloc::{AllocError, Global};
+use sg_num::{Row, Stop};
+use std::alloc::Global;
 use std::marker::Model;
 
 /// A sink in memory, with a room, and with faults at the calls that it is told.
@@ -40,9 +40,10 @@ impl Model for MemSink {
 impl MemSink {
     /// A sink that holds nothing. It takes at most `step` bytes a call and at most `room` bytes in all, and fails at the
     /// listed calls, counted from 1. It takes its memory first: the error is want of memory, which no later call meets.
-    pub fn new(alloc: Global, room: u32, step: u32, fails: Row<u32>) -> Result<MemSink, AllocError>
+    pub fn new(alloc: Global, room: u32, step: u32, fails: Row<u32>) -> Result<MemSink, Stop>
         requires { 0 < step }
-        ensures { IfOk result (λ s. s ≡ record { held = []; room = room; step = step; fails = fails; calls = 0; faults = 0 }) }
+        ensures empty { IfOk result (λ s. s ≡ record { held = []; room = room; step = step; fails = fails; calls = 0; faults = 0 }) }
+        ensures memory { IfErr result (λ e. e ≡ Stop.Memory alloc_error) }
     {
         let held = Vec::with_capacity(alloc, room as usize)?;
         Ok(MemSink {

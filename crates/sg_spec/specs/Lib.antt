@@ -7,3 +7,4 @@ pub mod Syntax
 pub mod Reading
 pub mod Generators
 pub mod Closed
+pub mod Parameter

@@ -1,3 +1,9 @@
 pub mod Printed
 pub mod Meanings
 pub mod Forms
+pub mod Ranges
+pub mod Words
+pub mod Tables
+pub mod Way
+pub mod Machine
+pub mod Unique

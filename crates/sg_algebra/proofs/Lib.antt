@@ -14,5 +14,9 @@ pub mod Series
 pub mod PolynomialRing
 pub mod Evaluation
 pub mod Derivative
+pub mod Degree
+pub mod Division
+pub mod Roots
+pub mod Shift
 pub mod WholeDivisors
 pub mod Divisor

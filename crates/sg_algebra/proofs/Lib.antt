@@ -18,5 +18,6 @@ pub mod Degree
 pub mod Division
 pub mod Roots
 pub mod Shift
+pub mod PolynomialLowest
 pub mod WholeDivisors
 pub mod Divisor

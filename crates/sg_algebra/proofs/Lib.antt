@@ -19,5 +19,7 @@ pub mod Division
 pub mod Roots
 pub mod Shift
 pub mod PolynomialLowest
+pub mod Fraction
+pub mod Classes
 pub mod WholeDivisors
 pub mod Divisor

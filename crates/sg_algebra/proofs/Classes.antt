@@ -1,7 +1,7 @@
 -- From a ring whose equality is a relation to one whose equality is ≡: the elements are classes.
---   QuotR R          the ring of classes; `mk x` is the class of x, `sound` goes from x ≈ y to `mk x ≡ mk y`
+--   ClassR R          the ring of classes; `mk x` is the class of x, `sound` goes from x ≈ y to `mk x ≡ mk y`
 --   exact            and back, where equality is decided
---   QuotF F          classes of a field are a field
+--   ClassF F          classes of a field are a field
 --   classH           the class, as a map of rings
 --   one_map, two_map, all_one, all_two, all_three    operations on classes, and equations of such from those at members
 use Rattle.std.proofs.Common.{◌≡◌, Bool, true, false, refl, sym, ◌∙◌, ap, ap₂, true≢false}
@@ -67,8 +67,8 @@ module _ (R : Ring) where
   abbrev pub class_neg : Class → Class
   class_neg = one_map ⊟ (λ x y. neg_cong)
 
-  abbrev pub QuotR : Ring
-  QuotR = record {
+  abbrev pub ClassR : Ring
+  ClassR = record {
     A = Class;
     ◌≈◌ = λ x y. x ≡ y;
     ◌⊞◌ = class_add;
@@ -92,7 +92,7 @@ module _ (R : Ring) where
     distrib = λ {x} {y} {z}. all_three (λ x y z. class_mul x (class_add y z)) (λ x y z. class_add (class_mul x y) (class_mul x z)) (λ a b c. sound distrib) x y z;
   }
 
-  abbrev pub classH : Hom R QuotR
+  abbrev pub classH : Hom R ClassR
   classH = record { on = λ x. mk x; on_cong = λ x y h. sound h; on-add = λ x y. refl; on-mul = λ x y. refl; on-one = refl }
 
   pub exact : ((x y : A) → Dec (x ≈ y)) → (x y : A) → ◌≡◌ {A = Class} (mk x) (mk y) → x ≈ y
@@ -104,7 +104,7 @@ module _ (R : Ring) where
 module _ (F : Field) where
   open F use {R, is_zero, one_ne, inv, inv_cong, mul_inv}
   open R use {A, ◌≈◌, O, I}
-  open QuotR R use {A as Q, ◌⊠◌ as ◌·◌}
+  open ClassR R use {A as Q, ◌⊠◌ as ◌·◌}
 
   -- equal classes have equal members
   pub exact_field : (x y : A) → ◌≡◌ {A = Q} (mk x) (mk y) → x ≈ y
@@ -116,9 +116,9 @@ module _ (F : Field) where
   pub mul-class_inv : (x : Q) → ¬ (x ≡ mk O) → x · one_map R inv (λ x y. inv_cong) x ≡ mk I
   mul-class_inv = ind (λ x. hlevel Quot-set) (λ a h. sound (mul_inv a (λ e. h (sound e))))
 
-  abbrev pub QuotF : Field
-  QuotF = record {
-    R = QuotR R;
+  abbrev pub ClassF : Field
+  ClassF = record {
+    R = ClassR R;
     is_zero = class_zero;
     one_ne = λ e. one_ne (exact_field I O e);
     inv = one_map R inv (λ x y. inv_cong);

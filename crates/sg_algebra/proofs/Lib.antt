@@ -19,7 +19,8 @@ pub mod Division
 pub mod Roots
 pub mod Shift
 pub mod PolynomialLowest
-pub mod Fraction
+pub mod Quotient
 pub mod Classes
+pub mod Ratio
 pub mod WholeDivisors
 pub mod Divisor

@@ -22,5 +22,10 @@ pub mod PolynomialLowest
 pub mod Quotient
 pub mod Classes
 pub mod Ratio
+pub mod Level
+pub mod Value
+pub mod ValueField
+pub mod Lists
+pub mod OverValue
 pub mod WholeDivisors
 pub mod Divisor

@@ -156,6 +156,11 @@ module _ (D : Domain) where
   mul-flip x (yes h) n = absurd (n (num_zero h))
   mul-flip x (no h) n = record { cross = ring R (x.num ∷ x.den ∷ []) (search reads depth 12) refl }
 
+  pub flip_O : (d : Dec (O ≈ O)) → flip_by (whole_quotient O) d ≃ whole_quotient O
+  unfolding flip_by
+  flip_O (yes h) = record { cross = rfl }
+  flip_O (no h) = absurd (h rfl)
+
   pub quotient_one_ne : ¬ (whole_quotient I ≃ whole_quotient O)
   quotient_one_ne h = one_ne (zero_num h)
 

@@ -4,13 +4,14 @@
 --   ratio-is           it is the class of the fraction
 --   ratio-add, ratio-sub, ratio-mul, ratio-neg, ratio-div    sum, difference, product, negative, quotient by one that isn't zero
 --   ratio_same, same_ratio    equal exactly where the cross products are
+--   ratio_inv-O        the inverse of zero is zero
 --   ratio-O, ratio-self, O_ratio    0/q is zero, q/q is one, and p/q is zero only where p is
 use Rattle.std.proofs.Common.{◌≡◌, refl, sym, ◌∙◌, ap, [], ◌∷◌}
 use mathlib.Core.Quot.{mk, sound}
 use Rattle.sg_algebra.specs.Ring.{Domain, Field}
 use Rattle.sg_algebra.proofs.Solver.{ring, by, reads}
 use Rattle.sg_algebra.proofs.Field.{product_ne, quotient_is}
-use Rattle.sg_algebra.proofs.Quotient.{QuotientF}
+use Rattle.sg_algebra.proofs.Quotient.{QuotientF, flip_O}
 use Rattle.sg_algebra.proofs.Classes.{ClassF, exact_field}
 
 module _ (P : Domain) where
@@ -75,3 +76,6 @@ module _ (P : Domain) where
       quotient_is RatioF (ratio p q) (ratio r s) (ratio (p ⊠ s) (q ⊠ r)) (λ e. k (O_ratio r s j e))
       (sym (ratio-mul (p ⊠ s) (q ⊠ r) r s (product_ne P h k) j)
       ∙ ratio_same ((p ⊠ s) ⊠ r) ((q ⊠ r) ⊠ s) p q (product_ne P (product_ne P h k) j) h (ring R (p ∷ q ∷ r ∷ s ∷ []) (search reads depth 16) refl))
+
+  pub ratio_inv-O : inv S.O ≡ S.O
+  ratio_inv-O = sound (flip_O P (P.is_zero O))

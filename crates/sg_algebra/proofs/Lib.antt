@@ -27,5 +27,6 @@ pub mod Value
 pub mod ValueField
 pub mod Lists
 pub mod OverValue
+pub mod Rational
 pub mod WholeDivisors
 pub mod Divisor

@@ -28,5 +28,6 @@ pub mod ValueField
 pub mod Lists
 pub mod OverValue
 pub mod Rational
+pub mod Data
 pub mod WholeDivisors
 pub mod Divisor

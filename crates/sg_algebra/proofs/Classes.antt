@@ -30,7 +30,7 @@ same_yes (yes p) (no q) f g = absurd (q (f p))
 same_yes (no p) (yes q) f g = absurd (p (g q))
 same_yes (no p) (no q) f g = refl
 
-Dec-prop : {P : Type 0} → IsProp P → IsProp (Dec P)
+pub Dec-prop : {P : Type 0} → IsProp P → IsProp (Dec P)
 Dec-prop h (yes p) (yes q) = ap yes (h p q)
 Dec-prop h (yes p) (no q) = absurd (q p)
 Dec-prop h (no p) (yes q) = absurd (p q)

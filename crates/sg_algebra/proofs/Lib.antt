@@ -29,5 +29,7 @@ pub mod Lists
 pub mod OverValue
 pub mod Rational
 pub mod Data
+pub mod Sums
+pub mod Polynomial
 pub mod WholeDivisors
 pub mod Divisor

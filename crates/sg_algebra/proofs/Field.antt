@@ -3,6 +3,7 @@
 --   alike           equality is decided, where equality to zero is
 --   domain F        a field is a domain: `field_cancel` takes a factor away
 --   inv_is          the inverse is what multiplies to one
+--   quotient_is     z y = x gives z = x / y
 --   inv_ne, inv-mul, inv-one, inv-inv     inverses that aren't zero, of a product, of one, of an inverse
 -- A proof of an identity with quotients needs none of these by name: see `field` in FieldSolver.
 use Rattle.std.proofs.Common.{refl, [], ◌∷◌}
@@ -36,6 +37,9 @@ module _ (F : Field) where
 
   pub inv_is : (x y : A) → ¬ (x ≈ O) → x ⊠ y ≈ I → y ≈ inv x
   inv_is x y h e = field_cancel h (trans e (symm (mul_inv x h)))
+
+  pub quotient_is : (x y z : A) → ¬ (y ≈ O) → z ⊠ y ≈ x → z ≈ x ⊠ inv y
+  quotient_is x y z h e = by R (x ∷ y ∷ z ∷ inv y ∷ []) (add_cong (scale R (inv y) e) (scale R (⊟ z) (mul_inv y h))) (search reads depth 16) refl
 
   pub inv_ne : (x : A) → ¬ (x ≈ O) → ¬ (inv x ≈ O)
   inv_ne x h e = one_ne (trans (symm (mul_inv x h)) (trans (mul_cong rfl e) (mul_O R)))

@@ -1,3 +1,5 @@
 pub mod Divisor
 pub mod Ring
 pub mod Coefficients
+pub mod Fraction
+pub mod Datum

@@ -9,6 +9,8 @@ mod Examples
 pub mod Divides
 pub mod Coprime
 pub mod Euclid
+pub mod WholeDivisors
+pub mod Divisor
 pub mod Pull
 pub mod Series
 pub mod PolynomialRing
@@ -31,5 +33,3 @@ pub mod Rational
 pub mod Data
 pub mod Sums
 pub mod Polynomial
-pub mod WholeDivisors
-pub mod Divisor

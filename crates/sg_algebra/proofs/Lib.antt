@@ -21,7 +21,9 @@ pub mod Division
 pub mod Roots
 pub mod Shift
 pub mod PolynomialLowest
+pub mod Strip
 pub mod Quotient
+pub mod MonicLowest
 pub mod Classes
 pub mod Ratio
 pub mod Level
@@ -30,6 +32,7 @@ pub mod ValueField
 pub mod Lists
 pub mod OverValue
 pub mod Rational
+pub mod Embedding
 pub mod Data
 pub mod Sums
 pub mod Polynomial

@@ -7,4 +7,6 @@ pub mod Syntax
 pub mod Reading
 pub mod Generators
 pub mod Closed
+pub mod Limits
+pub mod Plain
 pub mod Parameter

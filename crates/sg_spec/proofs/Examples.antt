@@ -2,7 +2,7 @@
 use Rattle.std.specs.Prelude.{pos, negsuc, [], ◌∷◌, Some, None}
 use Rattle.std.proofs.Common.{◌≡◌, refl}
 use Rattle.sg_spec.specs.Fraction.{whole}
-use Rattle.sg_spec.specs.Tree.{Tree, numeral, here, neg, add, div, power, sum_from, prod_from}
+use Rattle.sg_spec.specs.Tree.{Tree, numeral, here, neg, add, mul, div, power, sum_from, prod_from}
 use Rattle.sg_spec.specs.Value.{val, total, SameValue}
 use Rattle.sg_spec.specs.Limits.{counted, too_steep}
 use Rattle.sg_spec.specs.Plain.{canonical}

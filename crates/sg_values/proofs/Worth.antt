@@ -3,14 +3,14 @@
 --   worth_same           values that are one number are equal, and the other way round
 --   worth-sum, -product, -opposite, -power, -whole      the operations
 --   total_worth          a plain sum from its steps: what is 0 before the first term and grows by each term
-use Rattle.std.proofs.Common.{◌≡◌, ℕ, zero, suc, ◌+◌, ◌*◌, ◌<◌, ℤ, pos, negsuc, ◌+ℤ◌, ◌-ℤ◌, ◌*ℤ◌, ◌≤ℤ◌, neg_ℤ, Option, Some, None, refl, sym, ap, ap₂, ◌∙◌, subst, arith, List, [], ◌∷◌}
+use Rattle.std.proofs.Common.{◌≡◌, ℕ, zero, suc, ◌*◌, ℤ, pos, ◌-ℤ◌, ◌*ℤ◌, ◌≤ℤ◌, Option, Some, None, refl, sym, ap₂, ◌∙◌, arith, [], ◌∷◌}
 use Rattle.std.proofs.lemmas.Int.{ints}
-use Rattle.sg_algebra.proofs.Ring.{nat, pow}
-use Rattle.sg_algebra.proofs.Solver.{ring, by, reads}
-use Rattle.sg_algebra.proofs.Value.{Value, ◌+ᵛ◌, ◌-ᵛ◌, ◌*ᵛ◌, ◌/ᵛ◌, neg_value, zero_value, one_value, fraction_value}
+use Rattle.sg_algebra.proofs.Ring.{pow}
+use Rattle.sg_algebra.proofs.Solver.{ring, reads}
+use Rattle.sg_algebra.proofs.Value.{Value, ◌+ᵛ◌, ◌-ᵛ◌, ◌*ᵛ◌, neg_value, zero_value, one_value, fraction_value}
 use Rattle.sg_algebra.proofs.ValueField.{ValueR}
 use Rattle.sg_algebra.proofs.Rational.{fraction_value-add, fraction_value-sub, fraction_value-mul, fraction_value_same, same_fraction_value, fraction_value-zero, fraction_value-one, fraction_value-whole, whole_value}
-use Rattle.sg_spec.specs.Fraction.{Fraction, Same, whole, plus, minus, times, over}
+use Rattle.sg_spec.specs.Fraction.{Fraction, whole}
 use Rattle.sg_spec.specs.Tree.{Tree}
 use Rattle.sg_spec.specs.Value.{val, both, sum_of, product_of, opposite_of, power_of, SameValue, total}
 use Rattle.sg_values.proofs.Values.{IsProper, val-proper, sum_proper, power_proper}

@@ -1,0 +1,6 @@
+pub mod Lowest
+pub mod Results
+pub mod Fitting
+pub mod Operating
+pub mod Joining
+pub mod Folding

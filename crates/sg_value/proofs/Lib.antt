@@ -1,5 +1,4 @@
 pub mod Lowest
-pub mod Results
 pub mod Fitting
 pub mod Operating
 pub mod Joining

@@ -17,7 +17,7 @@ use Rattle.sg_num.specs.Steps.{outcome, fits_step}
 use Rattle.sg_value.specs.declared.step.Outcome.TheVariants.{Value, NoValue, TooWide}
 use Rattle.sg_value.specs.Answer.{operation_of, step_of, Stands, Answers}
 use Rattle.sg_value.proofs.Lowest.{lowest_is, above_zero}
-use Rattle.sg_value.proofs.Results.{plus_same, minus_same, times_same, over_same, zero_same}
+use Rattle.sg_values.proofs.Results.{plus_same, minus_same, times_same, over_same, zero_same}
 use Rattle.sg_value.proofs.Fitting.{misfit-one}
 
 -- what an operation makes of equal operands

@@ -5,5 +5,6 @@ pub mod Ranges
 pub mod Words
 pub mod Tables
 pub mod Way
-pub mod Machine
+pub mod Runs
 pub mod Unique
+pub mod Turns

@@ -8,3 +8,4 @@ pub mod Way
 pub mod Runs
 pub mod Unique
 pub mod Turns
+pub mod Reached

@@ -9,3 +9,4 @@ pub mod Runs
 pub mod Unique
 pub mod Turns
 pub mod Reached
+pub mod FirstFault

@@ -1,9 +1,13 @@
 //! The language of texts: which texts read as which expressions, and the reader.
 #![tactic(auto)]
 
+mod bounds;
+mod check;
 mod draft;
 mod fault;
+mod found;
 mod machine;
 mod node;
+mod scope;
 mod symbol;
 mod ways;

@@ -6,3 +6,4 @@ pub mod Machines
 pub mod Firsts
 pub mod Scopes
 pub mod Limited
+pub mod Fits

@@ -3,6 +3,7 @@
 
 mod bounds;
 mod check;
+mod convert;
 mod draft;
 mod fault;
 mod found;

@@ -10,3 +10,4 @@ pub mod Unique
 pub mod Turns
 pub mod Reached
 pub mod FirstFault
+pub mod Capping

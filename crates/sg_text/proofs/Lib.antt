@@ -11,3 +11,4 @@ pub mod Turns
 pub mod Reached
 pub mod FirstFault
 pub mod Capping
+pub mod Within

@@ -7,3 +7,4 @@ pub mod Firsts
 pub mod Scopes
 pub mod Limited
 pub mod Fits
+pub mod Reads

@@ -2,7 +2,7 @@
 --   earlier_assoc      of three faults
 --   first_of-append    of two lists after one another
 --   first_is, none_is  what the test finds is the first, and where it finds nothing there is none
-use Rattle.std.specs.Prelude.{◌≡◌, ℕ, ◌+◌, ◌*◌, ◌≤◌, ◌<◌, ◌⊎◌, nat_le, cond, Bool, true, false, Option, Some, None, List, [], ◌∷◌, ◌++◌}
+use Rattle.std.specs.Prelude.{◌≡◌, ℕ, ◌≤◌, ◌<◌, ◌⊎◌, nat_le, cond, Bool, true, false, Option, Some, None, List, [], ◌∷◌, ◌++◌}
 use Rattle.std.proofs.Common.{refl, sym, ap, ◌∙◌, subst, arith, inl, inr}
 use Rattle.std.proofs.lemmas.Bool.Decides.{nat_tests}
 use Rattle.sg_spec.specs.Grammar.{IsOneOf, first, later}
@@ -50,8 +50,8 @@ by_key f g h =
     let a = rank_small f.kind in
     let b = rank_small g.kind in
     elim (places f.place g.place) [
-    | inl l ↦ inl l
-    | inr r ↦ elim r [ inl e ↦ inr (e, omega arith) | inr m ↦ absurd (omega arith) ]
+      | inl l ↦ inl l
+      | inr r ↦ elim r [ inl e ↦ inr (e, omega arith) | inr m ↦ absurd (omega arith) ]
     ]
   where
     places : (m n : ℕ) → (m < n) ⊎ ((m ≡ n) ⊎ (n < m))

@@ -12,3 +12,6 @@ pub mod Reached
 pub mod FirstFault
 pub mod Capping
 pub mod Within
+pub mod Exclusive
+pub mod Depth
+pub mod Outcome

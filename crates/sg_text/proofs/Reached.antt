@@ -4,11 +4,11 @@
 --   reached-start, reached-next     before the first byte, and after one more
 --   reached-fault, reached-broken   the place of a fault: at a byte that isn't accepted, or at the end
 --   reached-end                     the tree of the whole text
-use Rattle.std.specs.Prelude.{◌≡◌, ℕ, zero, suc, ◌+◌, ◌≤◌, ◌<◌, List, [], ◌∷◌, ◌++◌, Bool, true, false, ◌&&◌, length, take, slice_index_or}
-use Rattle.std.proofs.Common.{refl, sym, ap, ◌∙◌, subst, arith, add-one}
+use Rattle.std.specs.Prelude.{◌≡◌, ℕ, zero, suc, ◌+◌, ◌≤◌, ◌<◌, List, [], ◌∷◌, ◌++◌, true, false, ◌&&◌, length, take, slice_index_or}
+use Rattle.std.proofs.Common.{refl, sym, ap, ◌∙◌, arith, add-one}
 use Rattle.std.proofs.Math.Seq.{take-length, take-suc}
 use Rattle.sg_spec.specs.Grammar.{Action, Symbol, span, act, text, IsSyntaxFault}
-use Rattle.sg_spec.specs.Syntax.{Placed, State, at_start, after_byte, after_action, top_tree}
+use Rattle.sg_spec.specs.Syntax.{Placed, State, at_start, after_byte, top_tree}
 use Rattle.sg_text.specs.Stack.{predict, lead, opened, acted, accepts, next, runs, stack_after, state_after, finished}
 use Rattle.sg_text.specs.Drafts.{capped_action}
 use Rattle.sg_text.specs.Machines.{Advances, HasCappedTree}

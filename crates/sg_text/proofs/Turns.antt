@@ -3,10 +3,10 @@
 --   alike_same, alike_action, alike_way     at the start, when an action is done, when a part opens
 --   lead_action, lead_way_of                the lead falls
 --   opened_span                             a span on top
-use Rattle.std.specs.Prelude.{◌≡◌, ℕ, ◌+◌, ◌<◌, List, [], ◌∷◌, ◌++◌, false, Bool}
-use Rattle.std.proofs.Common.{refl, sym, ap, ◌∙◌, subst, arith}
+use Rattle.std.specs.Prelude.{◌≡◌, ℕ, ◌<◌, List, [], ◌∷◌, ◌++◌, false}
+use Rattle.std.proofs.Common.{refl, sym, ap, ◌∙◌, arith}
 use Rattle.std.proofs.lemmas.List.{reverse-append, map-append}
-use Rattle.sg_spec.specs.Grammar.{Action as Deed, Symbol as Part, span, act, is_act, IsOneOf, first}
+use Rattle.sg_spec.specs.Grammar.{Symbol as Part, act, is_act, first}
 use Rattle.sg_spec.specs.Syntax.{State}
 use Rattle.sg_text.specs.Stack.{predict, lead, opened, acted}
 use Rattle.sg_text.specs.Parts.{action_of, part_of, parts_of}

@@ -2,15 +2,14 @@
 --   is_steady         tests of 128-bit bounds don't tell capped numbers apart
 --   FitsTree-faults   without fault all numbers fit
 --   faults-unlimited  without fault within limits there is none without limits
-use Rattle.std.specs.Prelude.{◌≡◌, ◌==◌, ℕ, ◌+◌, ◌^◌, ◌≤◌, ◌<◌, min, nat_le, nat_lt, not, ◌&&◌, Bool, true, false, List, [], ◌∷◌, ◌++◌, ℤ, pos, negsuc}
-use Rattle.std.proofs.Common.{refl, sym, ap, ◌∙◌, subst, arith}
+use Rattle.std.specs.Prelude.{◌≡◌, ◌==◌, ℕ, ◌^◌, ◌≤◌, ◌<◌, nat_le, not, ◌&&◌, Bool, true, false, List, [], ◌∷◌, ◌++◌, ℤ, pos, negsuc}
+use Rattle.std.proofs.Common.{refl, ap, ◌∙◌, arith}
 use Rattle.std.proofs.lemmas.Bool.Decides.{nat_tests}
 use Rattle.sg_spec.specs.Syntax.{Spot, Placed, number, named, negated, added, subtracted, multiplied, divided, raised, sum_call, product_call, harmonic, harmonic_of_order, factorial, binomial, constant_power}
-use Rattle.sg_spec.specs.Reading.{Kind, numeral_fault, exponent_fault, unbound, form, Fault, Limits, unlimited, fault_unless, is_small, is_variable, is_parameter, is_known, is_divisor, is_constant, call_faults, bound_faults, inside, faults}
+use Rattle.sg_spec.specs.Reading.{Kind, numeral_fault, exponent_fault, form, Fault, Limits, unlimited, fault_unless, is_small, is_variable, is_parameter, is_divisor, is_constant, call_faults, bound_faults, inside, faults}
 use Rattle.sg_text.specs.Drafts.{capped}
 use Rattle.sg_text.specs.Limited.{is_within}
 use Rattle.sg_text.specs.Fits.{FitsTree}
-use Rattle.sg_text.proofs.Capping.{IsSteady}
 
 pub is_within-capped : (z : ℤ) (n : ℕ) → is_within z (2 ^ 128) ≡ false → is_within z (capped n) ≡ is_within z n
 is_within-capped (pos m) n h = grind (arith, nat_tests)
@@ -88,18 +87,22 @@ FitsTree-faults limits k p names (subtracted x y) h =
     (FitsTree-faults limits k p names x (empty_left (faults limits p names x) (faults limits p names y) h), FitsTree-faults limits k p names y (empty_right (faults limits p names x) (faults limits p names y) h))
 FitsTree-faults limits k p names (multiplied x y) h =
     (FitsTree-faults limits k p names x (empty_left (faults limits p names x) (faults limits p names y) h), FitsTree-faults limits k p names y (empty_right (faults limits p names x) (faults limits p names y) h))
-FitsTree-faults limits k p names (divided x s y) h =
-    (FitsTree-faults limits k p names x (empty_left (faults limits p names x) (fault_unless (is_divisor names y) form s.place) (empty_left (faults limits p names x ++ fault_unless (is_divisor names y) form s.place) (faults limits p names y) h)),
-    FitsTree-faults limits k p names y (empty_right (faults limits p names x ++ fault_unless (is_divisor names y) form s.place) (faults limits p names y) h))
-FitsTree-faults limits k p names (raised x e) h =
-    (FitsTree-faults limits k p names x (empty_left (faults limits p names x) (fault_unless (limits.exponent e.value) exponent_fault e.place) h),
-    k.exponent e.value (test_holds (limits.exponent e.value) exponent_fault e.place (empty_right (faults limits p names x) (fault_unless (limits.exponent e.value) exponent_fault e.place) h)))
-FitsTree-faults limits k p names (sum_call c bound sign lower upper body) h =
-    (small_lower limits p names c bound sign lower upper (empty_left (bound_faults limits p names c bound sign lower upper) (faults limits p (inside bound.value names) body) h),
-    FitsTree-faults limits k p (inside bound.value names) body (empty_right (bound_faults limits p names c bound sign lower upper) (faults limits p (inside bound.value names) body) h))
-FitsTree-faults limits k p names (product_call c bound sign lower upper body) h =
-    (small_lower limits p names c bound sign lower upper (empty_left (bound_faults limits p names c bound sign lower upper) (faults limits true (inside bound.value names) body) h),
-    FitsTree-faults limits k true (inside bound.value names) body (empty_right (bound_faults limits p names c bound sign lower upper) (faults limits true (inside bound.value names) body) h))
+FitsTree-faults limits k p names (divided x s y) h = (
+  FitsTree-faults limits k p names x (empty_left (faults limits p names x) (fault_unless (is_divisor names y) form s.place) (empty_left (faults limits p names x ++ fault_unless (is_divisor names y) form s.place) (faults limits p names y) h)),
+  FitsTree-faults limits k p names y (empty_right (faults limits p names x ++ fault_unless (is_divisor names y) form s.place) (faults limits p names y) h),
+)
+FitsTree-faults limits k p names (raised x e) h = (
+  FitsTree-faults limits k p names x (empty_left (faults limits p names x) (fault_unless (limits.exponent e.value) exponent_fault e.place) h),
+  k.exponent e.value (test_holds (limits.exponent e.value) exponent_fault e.place (empty_right (faults limits p names x) (fault_unless (limits.exponent e.value) exponent_fault e.place) h)),
+)
+FitsTree-faults limits k p names (sum_call c bound sign lower upper body) h = (
+  small_lower limits p names c bound sign lower upper (empty_left (bound_faults limits p names c bound sign lower upper) (faults limits p (inside bound.value names) body) h),
+  FitsTree-faults limits k p (inside bound.value names) body (empty_right (bound_faults limits p names c bound sign lower upper) (faults limits p (inside bound.value names) body) h),
+)
+FitsTree-faults limits k p names (product_call c bound sign lower upper body) h = (
+  small_lower limits p names c bound sign lower upper (empty_left (bound_faults limits p names c bound sign lower upper) (faults limits true (inside bound.value names) body) h),
+  FitsTree-faults limits k true (inside bound.value names) body (empty_right (bound_faults limits p names c bound sign lower upper) (faults limits true (inside bound.value names) body) h),
+)
 FitsTree-faults limits k p names (harmonic c v) h = tt
 FitsTree-faults limits k p names (harmonic_of_order c v r) h =
     k.exponent r.value (and_right (not (r.value == 0)) (limits.exponent r.value) (test_holds (not (r.value == 0) && limits.exponent r.value) exponent_fault r.place

@@ -5,9 +5,9 @@
 --   mark_spot, numeral_spot, placed_of, draft_of      what a mark, a numeral, a node, a draft stands for
 --   with_mark, without_mark, ..     a state with one more mark, number or tree, and without the newest
 --   IsHead, without_head            the newest spots are those of a sum or product; a state without them
-use Rattle.std.specs.Prelude.{◌≡◌, ℕ, ◌+◌, ◌-◌, ◌*◌, ◌^◌, min, List, [], ◌∷◌, map, reverse, Option, Some, None}
-use Rattle.sg_spec.specs.Grammar.{Action, mark, letter, minus_sign, begin_number, digit, use_number, use_name, negate, add_up, subtract, multiply, divide, raise, make_sum, make_product, make_harmonic, make_harmonic_of_order, make_factorial, make_binomial, make_power}
-use Rattle.sg_spec.specs.Syntax.{Spot, Placed, number, named, negated, added, subtracted, multiplied, divided, raised, sum_call, product_call, harmonic, harmonic_of_order, factorial, binomial, constant_power, State, after_action, top_spot, second, third, fourth, top_tree, rest}
+use Rattle.std.specs.Prelude.{◌≡◌, ℕ, ◌+◌, ◌-◌, ◌*◌, ◌^◌, min, List, ◌∷◌, map, reverse, Option, Some, None}
+use Rattle.sg_spec.specs.Grammar.{Action, digit}
+use Rattle.sg_spec.specs.Syntax.{Spot, Placed, number, named, negated, added, subtracted, multiplied, divided, raised, sum_call, product_call, harmonic, harmonic_of_order, factorial, binomial, constant_power, State, after_action, top_spot, second, third, fourth, rest}
 use Rattle.sg_text.specs.declared.node.Mark.{Mark}
 use Rattle.sg_text.specs.declared.node.Numeral.{Numeral}
 use Rattle.sg_text.specs.declared.node.Head.{Head}

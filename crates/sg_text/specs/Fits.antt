@@ -1,6 +1,6 @@
 -- Placed trees whose numbers fit the numbers of an `Expr`.
 --   FitsTree      numerals below 2^127, exponents below 2^128, lower limits of a size up to 1,000
-use Rattle.std.specs.Prelude.{ℕ, ◌<◌, ◌≤◌, ◌^◌}
+use Rattle.std.specs.Prelude.{◌<◌, ◌≤◌, ◌^◌}
 use Rattle.sg_spec.specs.Syntax.{Placed, number, named, negated, added, subtracted, multiplied, divided, raised, sum_call, product_call, harmonic, harmonic_of_order, factorial, binomial, constant_power}
 
 abbrev pub FitsTree : Placed → Type 0

@@ -78,10 +78,22 @@ fn head_fault(bounds: &Bounds, in_product: bool, scope: Scope, head: Head) -> Op
     ensures { found_of result ≡ first_of (bound_faults (limits_of bounds.now) in_product (names_of scope) (mark_spot head.call) (mark_spot head.bound) (mark_spot head.sign) (numeral_spot head.lower) (mark_spot head.upper)) }
 {
     let call = unless(!in_product, Kind::Form, head.call.at);
-    let bound = unless(!scope.is_parameter(head.bound.value), Kind::Form, head.bound.at);
+    let bound = unless(
+        !scope.is_parameter(head.bound.value),
+        Kind::Form,
+        head.bound.at,
+    );
     let sign = unless(is_small(head.lower), Kind::Form, head.sign.at);
-    let lower = unless(bounds.takes_numeral(head.lower), Kind::Numeral, head.lower.at);
-    let upper = unless(scope.is_variable(head.upper.value), Kind::Form, head.upper.at);
+    let lower = unless(
+        bounds.takes_numeral(head.lower),
+        Kind::Numeral,
+        head.lower.at,
+    );
+    let upper = unless(
+        scope.is_variable(head.upper.value),
+        Kind::Form,
+        head.upper.at,
+    );
     earlier(earlier(earlier(earlier(call, bound), sign), lower), upper)
 }
 
@@ -93,7 +105,11 @@ fn order_fault(bounds: &Bounds, order: Numeral) -> Option<Found>
         Some(v) => v == 0,
         None => false,
     };
-    unless(!is_zero && bounds.takes_exponent(order), Kind::Exponent, order.at)
+    unless(
+        !is_zero && bounds.takes_exponent(order),
+        Kind::Exponent,
+        order.at,
+    )
 }
 
 /// The first fault of a tree, if there is one; the test tells whether it stands in the body of a product.
@@ -125,7 +141,10 @@ pub fn first_fault(node: &Node, bounds: &Bounds, in_product: bool, scope: Scope)
         }
         Node::Raised(x, n) => {
             let base = first_fault(x, bounds, in_product, scope);
-            earlier(base, unless(bounds.takes_exponent(*n), Kind::Exponent, n.at))
+            earlier(
+                base,
+                unless(bounds.takes_exponent(*n), Kind::Exponent, n.at),
+            )
         }
         Node::SumCall(head, body) => {
             let outer = head_fault(bounds, in_product, scope, *head);

@@ -7,11 +7,10 @@ ghost use Rattle.sg_text.specs.Drafts.{value_of, placed_of};
 ghost use Rattle.sg_text.specs.Scopes.{names_of};
 ghost use Rattle.sg_text.specs.Fits.{FitsTree};
 
-use std::alloc::{AllocError, Global};
-use sg_expr::Expr;
-
 use crate::node::{Head, Node, Numeral};
 use crate::scope::Scope;
+use sg_expr::Expr;
+use std::alloc::{AllocError, Global};
 
 /// The number; any, where it doesn't fit.
 fn numeral_of(n: Numeral) -> i128

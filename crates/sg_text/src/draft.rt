@@ -5,10 +5,9 @@ ghost use Rattle.sg_spec.specs.Grammar.{mark, letter, minus_sign, begin_number, 
 ghost use Rattle.sg_text.specs.Drafts.{value_of, mark_spot, numeral_spot, placed_of, draft_of, capped_action, with_mark, without_mark, with_number, without_number, with_tree, without_tree, without_head, IsHead};
 ghost use Rattle.sg_text.specs.Parts.{action_of};
 
-use std::alloc::{AllocError, Global};
-
 use crate::node::{Head, Mark, Node, Numeral};
 use crate::symbol::Action;
+use std::alloc::{AllocError, Global};
 
 /// The place of the next byte, the last byte, and the marks, numbers and trees that no tree holds yet; the newest stand last.
 #[derive(Drop)]
@@ -92,7 +91,10 @@ impl Draft {
     {
         match self.numbers.pop() {
             Some(n) => n,
-            None => Numeral { at: 0, value: Some(0) },
+            None => Numeral {
+                at: 0,
+                value: Some(0),
+            },
         }
     }
 
@@ -103,7 +105,10 @@ impl Draft {
     {
         match self.trees.pop() {
             Some(t) => t,
-            None => Node::Number(Numeral { at: 0, value: Some(0) }),
+            None => Node::Number(Numeral {
+                at: 0,
+                value: Some(0),
+            }),
         }
     }
 
@@ -117,7 +122,10 @@ impl Draft {
     fn mark(&mut self) -> Result<(), AllocError>
         ensures { OnOk result (draft_of self.new ≡ capped_action mark (draft_of self.old)) }
     {
-        self.push_mark(Mark { at: self.place, value: 0 })
+        self.push_mark(Mark {
+            at: self.place,
+            value: 0,
+        })
     }
 
     fn letter(&mut self) -> Result<(), AllocError>
@@ -135,7 +143,10 @@ impl Draft {
     fn begin_number(&mut self) -> Result<(), AllocError>
         ensures { OnOk result (draft_of self.new ≡ capped_action begin_number (draft_of self.old)) }
     {
-        self.push_number(Numeral { at: self.place, value: Some(0) })
+        self.push_number(Numeral {
+            at: self.place,
+            value: Some(0),
+        })
     }
 
     fn digit(&mut self) -> Result<(), AllocError>
@@ -227,7 +238,13 @@ impl Draft {
         let bound = self.pop_mark();
         let call = self.pop_mark();
         let lower = self.pop_number();
-        Head { call, bound, sign, lower, upper }
+        Head {
+            call,
+            bound,
+            sign,
+            lower,
+            upper,
+        }
     }
 
     fn make_sum(&mut self, alloc: Global) -> Result<(), AllocError>

@@ -48,9 +48,5 @@ pub fn earlier(left: Option<Found>, right: Option<Found>) -> Option<Found>
 pub fn unless(test: bool, kind: Kind, at: u32) -> Option<Found>
     ensures { found_of result ≡ first_of (fault_unless test (kind_of kind) at) }
 {
-    if test {
-        None
-    } else {
-        Some(Found { kind, at })
-    }
+    if test { None } else { Some(Found { kind, at }) }
 }

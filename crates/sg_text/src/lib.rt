@@ -9,6 +9,11 @@ mod fault;
 mod found;
 mod machine;
 mod node;
+mod reader;
 mod scope;
 mod symbol;
 mod ways;
+
+pub use bounds::Bounds;
+pub use fault::ReadFault;
+pub use reader::read;

@@ -6,13 +6,12 @@ ghost use Rattle.sg_text.specs.Stack.{lead, opened, acted, accepts, next, finish
 ghost use Rattle.sg_text.specs.Drafts.{placed_of, capped_action};
 ghost use Rattle.sg_text.specs.Machines.{topped, stack_of, state_of, Advances, HasCappedTree, IsParseFault};
 
-use std::alloc::{AllocError, Global};
-
 use crate::draft::Draft;
 use crate::fault::ReadFault;
 use crate::node::Node;
 use crate::symbol::Symbol;
 use crate::ways::way;
+use std::alloc::{AllocError, Global};
 
 /// The parts that are still to come, the next one last, and what was made so far.
 #[derive(Drop)]
@@ -39,7 +38,10 @@ impl Machine {
     {
         let mut stack = Vec::new(alloc);
         stack.push(Symbol::Text)?;
-        Ok(Machine { stack, draft: Draft::new(alloc) })
+        Ok(Machine {
+            stack,
+            draft: Draft::new(alloc),
+        })
     }
 
     /// Opens parts and does actions until a byte stands on top, and takes it off; nothing, where nothing is left.
@@ -103,6 +105,8 @@ pub fn parse(alloc: Global, text: &[u8]) -> Result<Node, ReadFault>
     if machine.finish(alloc)? {
         Ok(machine.draft.pop_tree())
     } else {
-        Err(ReadFault::Syntax { at: text.len() as u32 })
+        Err(ReadFault::Syntax {
+            at: text.len() as u32,
+        })
     }
 }

@@ -36,6 +36,9 @@ impl Scope {
     pub fn inside(self, bound: u8) -> Scope
         ensures { names_of result ≡ inside bound (names_of self) }
     {
-        Scope { variable: bound, parameter: self.parameter }
+        Scope {
+            variable: bound,
+            parameter: self.parameter,
+        }
     }
 }

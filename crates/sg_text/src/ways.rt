@@ -30,7 +30,13 @@ fn more_terms_way(byte: u8) -> &'static [Symbol]
 {
     match byte {
         b'+' => &[MoreTerms, Act(Action::AddUp), Term, Blanks, Span(b'+', 0)],
-        b'-' => &[MoreTerms, Act(Action::Subtract), Term, Blanks, Span(b'-', 0)],
+        b'-' => &[
+            MoreTerms,
+            Act(Action::Subtract),
+            Term,
+            Blanks,
+            Span(b'-', 0),
+        ],
         _ => &[],
     }
 }
@@ -39,8 +45,21 @@ fn more_factors_way(byte: u8) -> &'static [Symbol]
     ensures { parts_of result.now ≡ predict more_factors byte }
 {
     match byte {
-        b'*' => &[MoreFactors, Act(Action::Multiply), Factor, Blanks, Span(b'*', 0)],
-        b'/' => &[MoreFactors, Act(Action::Divide), Factor, Act(Action::Mark), Blanks, Span(b'/', 0)],
+        b'*' => &[
+            MoreFactors,
+            Act(Action::Multiply),
+            Factor,
+            Blanks,
+            Span(b'*', 0),
+        ],
+        b'/' => &[
+            MoreFactors,
+            Act(Action::Divide),
+            Factor,
+            Act(Action::Mark),
+            Blanks,
+            Span(b'/', 0),
+        ],
         _ => &[],
     }
 }
@@ -73,7 +92,12 @@ fn worded_way(byte: u8) -> &'static [Symbol]
         b'f' => &[AfterF, Span(b'f', 0)],
         b'b' => &[AfterB, Span(b'b', 0)],
         b'H' => &[NameAndOrder, Blanks, Span(b'H', 0)],
-        _ => &[Blanks, Act(Action::UseName), Act(Action::Letter), Span(b'a', 25)],
+        _ => &[
+            Blanks,
+            Act(Action::UseName),
+            Act(Action::Letter),
+            Span(b'a', 25),
+        ],
     }
 }
 
@@ -81,12 +105,51 @@ fn call_way(byte: u8) -> &'static [Symbol]
     ensures { parts_of result.now ≡ predict call byte }
 {
     match byte {
-        b's' => &[Act(Action::MakeSum), BoundsAndBody, Blanks, Span(b'm', 0), Span(b'u', 0), Span(b's', 0)],
-        b'p' => &[Act(Action::MakeProduct), BoundsAndBody, Blanks, Span(b'd', 0), Span(b'o', 0), Span(b'r', 0), Span(b'p', 0)],
+        b's' => &[
+            Act(Action::MakeSum),
+            BoundsAndBody,
+            Blanks,
+            Span(b'm', 0),
+            Span(b'u', 0),
+            Span(b's', 0),
+        ],
+        b'p' => &[
+            Act(Action::MakeProduct),
+            BoundsAndBody,
+            Blanks,
+            Span(b'd', 0),
+            Span(b'o', 0),
+            Span(b'r', 0),
+            Span(b'p', 0),
+        ],
         b'H' => &[NameAndOrder, Blanks, Span(b'H', 0)],
-        b'f' => &[Act(Action::MakeFactorial), OneName, Blanks, Span(b't', 0), Span(b'c', 0), Span(b'a', 0), Span(b'f', 0)],
-        b'b' => &[Act(Action::MakeBinomial), ExprAndName, Blanks, Span(b'm', 0), Span(b'o', 0), Span(b'n', 0), Span(b'i', 0), Span(b'b', 0)],
-        _ => &[Act(Action::MakePower), ConstAndName, Blanks, Span(b'w', 0), Span(b'o', 0), Span(b'p', 0)],
+        b'f' => &[
+            Act(Action::MakeFactorial),
+            OneName,
+            Blanks,
+            Span(b't', 0),
+            Span(b'c', 0),
+            Span(b'a', 0),
+            Span(b'f', 0),
+        ],
+        b'b' => &[
+            Act(Action::MakeBinomial),
+            ExprAndName,
+            Blanks,
+            Span(b'm', 0),
+            Span(b'o', 0),
+            Span(b'n', 0),
+            Span(b'i', 0),
+            Span(b'b', 0),
+        ],
+        _ => &[
+            Act(Action::MakePower),
+            ConstAndName,
+            Blanks,
+            Span(b'w', 0),
+            Span(b'o', 0),
+            Span(b'p', 0),
+        ],
     }
 }
 
@@ -94,7 +157,12 @@ fn order_way(byte: u8) -> &'static [Symbol]
     ensures { parts_of result.now ≡ predict order byte }
 {
     match byte {
-        b',' => &[Act(Action::MakeHarmonicOfOrder), Digits, Blanks, Span(b',', 0)],
+        b',' => &[
+            Act(Action::MakeHarmonicOfOrder),
+            Digits,
+            Blanks,
+            Span(b',', 0),
+        ],
         _ => &[Act(Action::MakeHarmonic)],
     }
 }
@@ -112,7 +180,14 @@ fn const_way(byte: u8) -> &'static [Symbol]
     ensures { parts_of result.now ≡ predict const byte }
 {
     match byte {
-        b'-' => &[Act(Action::Negate), Divisor, Act(Action::UseNumber), Digits, Blanks, Span(b'-', 0)],
+        b'-' => &[
+            Act(Action::Negate),
+            Divisor,
+            Act(Action::UseNumber),
+            Digits,
+            Blanks,
+            Span(b'-', 0),
+        ],
         _ => &[Divisor, Act(Action::UseNumber), Digits],
     }
 }
@@ -121,7 +196,14 @@ fn divisor_way(byte: u8) -> &'static [Symbol]
     ensures { parts_of result.now ≡ predict divisor byte }
 {
     match byte {
-        b'/' => &[Act(Action::Divide), Act(Action::UseNumber), Digits, Act(Action::Mark), Blanks, Span(b'/', 0)],
+        b'/' => &[
+            Act(Action::Divide),
+            Act(Action::UseNumber),
+            Digits,
+            Act(Action::Mark),
+            Blanks,
+            Span(b'/', 0),
+        ],
         _ => &[],
     }
 }
@@ -139,7 +221,13 @@ fn after_s_way(byte: u8) -> &'static [Symbol]
     ensures { parts_of result.now ≡ predict after_s byte }
 {
     match byte {
-        b'u' => &[Act(Action::MakeSum), BoundsAndBody, Blanks, Span(b'm', 0), Span(b'u', 0)],
+        b'u' => &[
+            Act(Action::MakeSum),
+            BoundsAndBody,
+            Blanks,
+            Span(b'm', 0),
+            Span(b'u', 0),
+        ],
         _ => &[Blanks, Act(Action::UseName), Act(Action::Letter)],
     }
 }
@@ -148,8 +236,21 @@ fn after_p_way(byte: u8) -> &'static [Symbol]
     ensures { parts_of result.now ≡ predict after_p byte }
 {
     match byte {
-        b'r' => &[Act(Action::MakeProduct), BoundsAndBody, Blanks, Span(b'd', 0), Span(b'o', 0), Span(b'r', 0)],
-        b'o' => &[Act(Action::MakePower), ConstAndName, Blanks, Span(b'w', 0), Span(b'o', 0)],
+        b'r' => &[
+            Act(Action::MakeProduct),
+            BoundsAndBody,
+            Blanks,
+            Span(b'd', 0),
+            Span(b'o', 0),
+            Span(b'r', 0),
+        ],
+        b'o' => &[
+            Act(Action::MakePower),
+            ConstAndName,
+            Blanks,
+            Span(b'w', 0),
+            Span(b'o', 0),
+        ],
         _ => &[Blanks, Act(Action::UseName), Act(Action::Letter)],
     }
 }
@@ -158,7 +259,14 @@ fn after_f_way(byte: u8) -> &'static [Symbol]
     ensures { parts_of result.now ≡ predict after_f byte }
 {
     match byte {
-        b'a' => &[Act(Action::MakeFactorial), OneName, Blanks, Span(b't', 0), Span(b'c', 0), Span(b'a', 0)],
+        b'a' => &[
+            Act(Action::MakeFactorial),
+            OneName,
+            Blanks,
+            Span(b't', 0),
+            Span(b'c', 0),
+            Span(b'a', 0),
+        ],
         _ => &[Blanks, Act(Action::UseName), Act(Action::Letter)],
     }
 }
@@ -167,7 +275,15 @@ fn after_b_way(byte: u8) -> &'static [Symbol]
     ensures { parts_of result.now ≡ predict after_b byte }
 {
     match byte {
-        b'i' => &[Act(Action::MakeBinomial), ExprAndName, Blanks, Span(b'm', 0), Span(b'o', 0), Span(b'n', 0), Span(b'i', 0)],
+        b'i' => &[
+            Act(Action::MakeBinomial),
+            ExprAndName,
+            Blanks,
+            Span(b'm', 0),
+            Span(b'o', 0),
+            Span(b'n', 0),
+            Span(b'i', 0),
+        ],
         _ => &[Blanks, Act(Action::UseName), Act(Action::Letter)],
     }
 }
@@ -188,19 +304,70 @@ pub fn way(part: Symbol, byte: u8) -> &'static [Symbol]
         Exponent => exponent_way(byte),
         Atom => atom_way(byte),
         Worded => worded_way(byte),
-        Variable => &[Blanks, Act(Action::UseName), Act(Action::Letter), Span(b'a', 25)],
+        Variable => &[
+            Blanks,
+            Act(Action::UseName),
+            Act(Action::Letter),
+            Span(b'a', 25),
+        ],
         Call => call_way(byte),
-        BoundsAndBody => &[Blanks, Span(b')', 0), Expr, Blanks, Span(b',', 0), Name, Blanks, Span(b',', 0), Int, Act(Action::Mark), Blanks, Span(b',', 0), Name, Blanks, Span(b'(', 0)],
+        BoundsAndBody => &[
+            Blanks,
+            Span(b')', 0),
+            Expr,
+            Blanks,
+            Span(b',', 0),
+            Name,
+            Blanks,
+            Span(b',', 0),
+            Int,
+            Act(Action::Mark),
+            Blanks,
+            Span(b',', 0),
+            Name,
+            Blanks,
+            Span(b'(', 0),
+        ],
         NameAndOrder => &[Blanks, Span(b')', 0), Order, Name, Blanks, Span(b'(', 0)],
         OneName => &[Blanks, Span(b')', 0), Name, Blanks, Span(b'(', 0)],
-        ExprAndName => &[Blanks, Span(b')', 0), Name, Blanks, Span(b',', 0), Expr, Act(Action::Mark), Blanks, Span(b'(', 0)],
-        ConstAndName => &[Blanks, Span(b')', 0), Name, Blanks, Span(b',', 0), Const, Blanks, Span(b'(', 0)],
+        ExprAndName => &[
+            Blanks,
+            Span(b')', 0),
+            Name,
+            Blanks,
+            Span(b',', 0),
+            Expr,
+            Act(Action::Mark),
+            Blanks,
+            Span(b'(', 0),
+        ],
+        ConstAndName => &[
+            Blanks,
+            Span(b')', 0),
+            Name,
+            Blanks,
+            Span(b',', 0),
+            Const,
+            Blanks,
+            Span(b'(', 0),
+        ],
         Order => order_way(byte),
         Int => int_way(byte),
         Const => const_way(byte),
         Divisor => divisor_way(byte),
-        Name => &[Blanks, Act(Action::Letter), Span(b'a', 25), Act(Action::Mark)],
-        Digits => &[Blanks, MoreDigits, Act(Action::Digit), Span(b'0', 9), Act(Action::BeginNumber)],
+        Name => &[
+            Blanks,
+            Act(Action::Letter),
+            Span(b'a', 25),
+            Act(Action::Mark),
+        ],
+        Digits => &[
+            Blanks,
+            MoreDigits,
+            Act(Action::Digit),
+            Span(b'0', 9),
+            Act(Action::BeginNumber),
+        ],
         MoreDigits => more_digits_way(byte),
         AfterS => after_s_way(byte),
         AfterP => after_p_way(byte),

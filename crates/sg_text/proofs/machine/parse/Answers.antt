@@ -1,4 +1,4 @@
-use Rattle.std.proofs.Common.{rules, sym, ◌∙◌, arith, length}
+use Rattle.std.proofs.Common.{rules, sym, ◌∙◌, arith}
 use Rattle.sg_text.specs.Drafts.{placed_of}
 use Rattle.sg_text.specs.Machines.{stack_of, state_of}
 use Rattle.sg_text.proofs.Reached.{reached-next, reached-fault, reached-end, reached-broken}

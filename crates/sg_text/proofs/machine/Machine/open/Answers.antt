@@ -1,4 +1,3 @@
-use Rattle.std.proofs.Common.{sym, ◌∙◌}
 use Rattle.sg_text.specs.Machines.{stack_of, state_of}
 use Rattle.sg_text.proofs.Turns.{alike_way, lead_way_of, not_span, not_act}
 use Rattle.sg_text.proofs.machine.Machine.open.Goals as goal

@@ -24,6 +24,7 @@ pub enum Action {
 }
 
 /// A part of a text: one byte (`Span(low, more)`: from `low` to `low + more`), an action, or a named part of the grammar.
+/// A call never stands alone: the letters of a name or a word tell which it is.
 #[derive(Clone, Copy)]
 pub enum Symbol {
     Span(u8, u8),
@@ -39,7 +40,6 @@ pub enum Symbol {
     Atom,
     Worded,
     Variable,
-    Call,
     BoundsAndBody,
     NameAndOrder,
     OneName,

@@ -1,6 +1,6 @@
 //! For each part of the grammar the way that the next byte tells, its last part first.
 ghost use Rattle.std.specs.Prelude.{◌≡◌};
-ghost use Rattle.sg_spec.specs.Grammar.{blanks, expr, more_terms, more_factors, exponent, atom, worded, call, order, int, const, divisor, more_digits, after_s, after_p, after_f, after_b};
+ghost use Rattle.sg_spec.specs.Grammar.{blanks, expr, more_terms, more_factors, exponent, atom, worded, order, int, const, divisor, more_digits, after_s, after_p, after_f, after_b};
 ghost use Rattle.sg_text.specs.Stack.{predict};
 ghost use Rattle.sg_text.specs.Parts.{part_of, parts_of};
 
@@ -97,58 +97,6 @@ fn worded_way(byte: u8) -> &'static [Symbol]
             Act(Action::UseName),
             Act(Action::Letter),
             Span(b'a', 25),
-        ],
-    }
-}
-
-fn call_way(byte: u8) -> &'static [Symbol]
-    ensures { parts_of result.now ≡ predict call byte }
-{
-    match byte {
-        b's' => &[
-            Act(Action::MakeSum),
-            BoundsAndBody,
-            Blanks,
-            Span(b'm', 0),
-            Span(b'u', 0),
-            Span(b's', 0),
-        ],
-        b'p' => &[
-            Act(Action::MakeProduct),
-            BoundsAndBody,
-            Blanks,
-            Span(b'd', 0),
-            Span(b'o', 0),
-            Span(b'r', 0),
-            Span(b'p', 0),
-        ],
-        b'H' => &[NameAndOrder, Blanks, Span(b'H', 0)],
-        b'f' => &[
-            Act(Action::MakeFactorial),
-            OneName,
-            Blanks,
-            Span(b't', 0),
-            Span(b'c', 0),
-            Span(b'a', 0),
-            Span(b'f', 0),
-        ],
-        b'b' => &[
-            Act(Action::MakeBinomial),
-            ExprAndName,
-            Blanks,
-            Span(b'm', 0),
-            Span(b'o', 0),
-            Span(b'n', 0),
-            Span(b'i', 0),
-            Span(b'b', 0),
-        ],
-        _ => &[
-            Act(Action::MakePower),
-            ConstAndName,
-            Blanks,
-            Span(b'w', 0),
-            Span(b'o', 0),
-            Span(b'p', 0),
         ],
     }
 }
@@ -310,7 +258,6 @@ pub fn way(part: Symbol, byte: u8) -> &'static [Symbol]
             Act(Action::Letter),
             Span(b'a', 25),
         ],
-        Call => call_way(byte),
         BoundsAndBody => &[
             Blanks,
             Span(b')', 0),

@@ -8,3 +8,4 @@ pub mod Reading
 pub mod Generators
 pub mod Closed
 pub mod Parameter
+pub mod Printing

@@ -7,3 +7,4 @@ pub mod Tables
 pub mod Way
 pub mod Machine
 pub mod Unique
+pub mod PrintSteps

@@ -1,2 +1,3 @@
 pub mod Ranges
 pub mod Stack
+pub mod PrintedText

@@ -1,5 +1,6 @@
 -- What a printed text has to be.
 --   AreNames            the letters of a text: one or two lower-case ones, which differ
+--   SparesBound         the parameter's letter is none that a printed sum or product binds, which are i and j
 --   has_parameter       whether the second letter is given
 --   IsPrintable         reader's form: some text reads as the tree
 --   InForm              the same by cases on the tree, as far as its numbers have at most 64 digits
@@ -25,6 +26,11 @@ AreNames [] = ⊥
 AreNames (v ∷ []) = IsLetter v
 AreNames (v ∷ (p ∷ [])) = IsLetter v × IsLetter p × (v ≢ p)
 AreNames (v ∷ (p ∷ (q ∷ more))) = ⊥
+
+abbrev pub SparesBound : List ℕ → Type 0
+SparesBound [] = Unit {0}
+SparesBound (v ∷ []) = Unit {0}
+SparesBound (v ∷ (p ∷ more)) = (p ≢ 105) × (p ≢ 106)
 
 abbrev pub has_parameter : List ℕ → Bool
 has_parameter [] = false

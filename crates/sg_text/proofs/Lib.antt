@@ -8,3 +8,7 @@ pub mod Way
 pub mod Machine
 pub mod Unique
 pub mod PrintSteps
+pub mod PrintMeanings
+pub mod PrintCalls
+pub mod PrintReads
+pub mod PrintBounds

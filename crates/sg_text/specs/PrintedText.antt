@@ -11,7 +11,7 @@
 --   plain, text_at      the bytes of a written tree, and those at a place of this level
 --   added_text          the bytes that follow the left operand of a sum
 --   printed             the text of a tree in these letters
-use Rattle.std.specs.Prelude.{◌==◌, ℕ, zero, suc, ◌≤◌, nat_lt, ℤ, pos, negsuc, unsigned_abs, Bool, true, false, not, cond, ◌&&◌, List, [], ◌∷◌, ◌++◌, codes}
+use Rattle.std.specs.Prelude.{◌==◌, ℕ, zero, suc, ◌≤◌, nat_lt, ℤ, pos, negsuc, unsigned_abs, Bool, true, false, not, cond, ◌&&◌, List, [], ◌∷◌, ◌++◌, get_or, codes}
 use Rattle.std.specs.Fmt.{decimal}
 use Rattle.sg_spec.specs.Tree.{Tree, numeral, here, param, add, neg, mul, div, power, sum_from, prod_from}
 use Rattle.sg_spec.specs.Syntax.{Spot, Placed, number, named, negated, added, subtracted, multiplied, divided, raised, sum_call, product_call, harmonic, harmonic_of_order, factorial, binomial, constant_power}
@@ -179,10 +179,5 @@ abbrev pub added_text : ℕ → ℕ → ℕ → Tree → List ℕ
 added_text v p bound (neg x) = 45 ∷ text_at Term (written v p bound x)
 added_text v p bound x = 43 ∷ text_at Term (written v p bound x)
 
-abbrev pub letter_at : ℕ → List ℕ → ℕ
-letter_at i [] = 0
-letter_at zero (c ∷ cs) = c
-letter_at (suc i) (c ∷ cs) = letter_at i cs
-
 abbrev pub printed : List ℕ → Tree → List ℕ
-printed names e = plain (written (letter_at 0 names) (letter_at 1 names) 106 e)
+printed names e = plain (written (get_or names 0 0) (get_or names 1 0) 106 e)

@@ -1,4 +1,6 @@
-//! The language of texts: which texts read as which expressions, and the reader.
+//! The language of texts: which texts read as which expressions, the reader and the printer.
 #![tactic(auto)]
 
 mod print;
+
+pub use print::print;

@@ -1,28 +1,29 @@
 //! The printed form of expressions.
-ghost use Rattle.std.specs.Prelude.{◌≡◌, ◌++◌, ◌∷◌, [], ◌<◌, ℕ, ℤ, List, OnOk, decimal, unsigned_abs};
+ghost use Rattle.std.specs.Prelude.{◌≡◌, ◌++◌, ◌∷◌, [], ◌<◌, ℕ, ℤ, List, false, get_or, IfOk, OnOk, decimal, unsigned_abs};
 ghost use Rattle.sg_spec.specs.Syntax.{Placed};
 ghost use Rattle.sg_spec.specs.Tree.{Tree, add, div, sum_from, prod_from};
-ghost use Rattle.sg_spec.specs.Printing.{is_constant_tree, IsShort};
-ghost use Rattle.sg_text.specs.PrintedText.{next_bound, sign_of, is_one, is_numeral, is_here, is_minus_here, power_order, harmonic_order, is_falling, is_quotient, body_form, product_form, written, written_sum, left_of, level_of, is_below, text_at, added_text, limit_text, call_text, plain};
+ghost use Rattle.sg_spec.specs.Reading.{Bounds, Reads, IsRead};
+ghost use Rattle.sg_spec.specs.Printing.{AreNames, SparesBound, has_parameter, is_constant_tree, InForm, IsShort, KeepsBounds};
+ghost use Rattle.sg_text.specs.PrintedText.{next_bound, sign_of, is_one, is_numeral, is_here, is_minus_here, power_order, harmonic_order, is_falling, is_quotient, body_form, product_form, written, written_sum, left_of, level_of, is_below, text_at, added_text, limit_text, call_text, plain, printed};
 ghost use Rattle.sg_expr.specs.Tree.{tree_of};
 
 use itoa::Buffer;
 use sg_expr::Expr;
 use sg_num::Row;
-use std::alloc::AllocError;
+use std::alloc::{AllocError, Global};
 
-/// A level of the grammar; each one holds those after it.
-#[derive(Clone, Copy, Debug)]
-pub enum Level {
+// A level of the grammar; each one holds those after it.
+#[derive(Clone, Copy)]
+enum Level {
     Sum,
     Term,
     Factor,
     Atom,
 }
 
-/// How a product is written: in full, or by a shorthand.
-#[derive(Clone, Copy, Debug)]
-pub enum ProductForm {
+// How a product is written: in full, or by a shorthand.
+#[derive(Clone, Copy)]
+enum ProductForm {
     Full,
     Factorial,
     Binomial,
@@ -221,6 +222,44 @@ fn is_below(own: Level, wanted: Level) -> bool
         (Level::Term, Level::Atom) => true,
         (Level::Factor, Level::Atom) => true,
         _ => false,
+    }
+}
+
+/// The text of an expression in one or two letters: the first names the variable, the second the parameter, and bound names
+/// are j and i in turn. It has no blanks and the shorthands wherever the tree is exactly theirs. The error is want of memory.
+pub fn print(alloc: Global, e: &Expr, free: &[u8]) -> Result<Row<u8>, AllocError>
+    requires letters { AreNames free.now }
+    requires apart { SparesBound free.now }
+    requires form { InForm (has_parameter free.now) false (tree_of e.now) }
+    ensures text { IfOk result (λ w. w ≡ printed free.now (tree_of e.now)) }
+    ensures reads_back { IfOk result (λ w. Reads w free.now (tree_of e.now)) }
+    ensures bounded { IfOk result (λ w. (bounds : Bounds) → KeepsBounds bounds w → IsRead bounds free.now w (tree_of e.now)) }
+{
+    let out = print_plain(alloc, e, free)?;
+    Ok(out)
+}
+
+fn print_plain(alloc: Global, e: &Expr, free: &[u8]) -> Result<Row<u8>, AllocError>
+    ensures text { IfOk result (λ w. w ≡ printed free.now (tree_of e.now)) }
+    ensures short { IfOk result (λ w. IsShort (tree_of e.now)) }
+{
+    let scope = Scope {
+        variable: letter_at(free, 0),
+        parameter: letter_at(free, 1),
+        bound: b'j',
+    };
+    let mut out = Row::new(alloc);
+    write(e, scope, &mut out)?;
+    Ok(out)
+}
+
+// The letter at a place, or 0.
+fn letter_at(free: &[u8], i: usize) -> u8
+    ensures { result ≡ get_or free.now i 0 }
+{
+    match free.get(i) {
+        Some(c) => *c,
+        None => 0,
     }
 }
 

@@ -9,8 +9,8 @@ use Rattle.std.proofs.lemmas.Fmt.{decimal_is_IsNumeral_wide}
 use Rattle.std.specs.Str.Parse.{IsNumeral, digits_value}
 use Rattle.sg_spec.specs.Grammar.{Action, mark, letter, minus_sign, use_number, negate, divide, make_sum, make_product, make_harmonic, make_harmonic_of_order, make_factorial, make_binomial, make_power, Symbol, span, act, blanks, expr, atom, worded, call, bounds_and_body, name_and_order, one_name, expr_and_name, const_and_name, order, int, const, divisor, name, digits, rules, IsOneOf, first, later}
 use Rattle.sg_spec.specs.Syntax.{Spot, Placed, number, negated, divided, raised, sum_call, product_call, harmonic, harmonic_of_order, factorial, binomial, constant_power, State, after_byte}
-use Rattle.sg_text.specs.declared.print.Level.{Level}
-use Rattle.sg_text.specs.declared.print.Level.TheVariants.{Sum, Term, Factor, Atom}
+use Rattle.sg_text.specs.declared.printing.Level.{Level}
+use Rattle.sg_text.specs.declared.printing.Level.TheVariants.{Sum, Term, Factor, Atom}
 use Rattle.sg_text.specs.PrintedText.{sign_of, at_level, limit_text, call_text}
 use Rattle.sg_text.proofs.Printed.{at_spot, reading, Ends, Leaves, Sum as SumText, Product as ProductText, Factor as FactorText, Atom as AtomText, ends_byte, ends_this, ends_act, ends_way, ends_blanks, whole_sum, all_digits, sum-product, product-factor, factor-atom, factor-power, atom-parens}
 

@@ -14,10 +14,10 @@ use Rattle.sg_spec.specs.Tree.{Tree, numeral, here, param, add, neg, mul, div, p
 use Rattle.sg_spec.specs.Syntax.{Placed, number, named, negated, added, subtracted, multiplied, divided, raised, sum_call, product_call, harmonic, harmonic_of_order, factorial, binomial, constant_power}
 use Rattle.sg_spec.specs.Reading.{is_variable, is_parameter, inside, is_small, harmonic_sum, binomial_product, unlimited, Reads}
 use Rattle.sg_spec.specs.Printing.{IsLetter, AreNames, SparesBound, has_parameter, is_polynomial_tree, is_divisor_tree, is_constant_tree, InForm, IsShort}
-use Rattle.sg_text.specs.declared.print.ProductForm.{ProductForm}
-use Rattle.sg_text.specs.declared.print.ProductForm.TheVariants.{Full, Factorial, Binomial, Power}
-use Rattle.sg_text.specs.declared.print.Level.{Level}
-use Rattle.sg_text.specs.declared.print.Level.TheVariants.{Sum, Term, Factor, Atom}
+use Rattle.sg_text.specs.declared.printing.ProductForm.{ProductForm}
+use Rattle.sg_text.specs.declared.printing.ProductForm.TheVariants.{Full, Factorial, Binomial, Power}
+use Rattle.sg_text.specs.declared.printing.Level.{Level}
+use Rattle.sg_text.specs.declared.printing.Level.TheVariants.{Sum, Term, Factor, Atom}
 use Rattle.sg_text.specs.PrintedText.{spot_of, next_bound, sign_of, is_first, is_one, is_numeral, is_here, is_minus_here, power_order, body_order, harmonic_order, is_constant_plus_one, is_falling, is_quotient, body_form, product_form, written_sum, written_product, left_of, written, level_of, at_level, plain, printed}
 use Rattle.sg_text.proofs.Printed.{at_spot, Means, sum-add, sum-sub, sum-neg, product-mul, product-div, atom-name, reads_text, Sum as SumText}
 use Rattle.sg_text.proofs.PrintSteps.{written_left, left_true, right_true}

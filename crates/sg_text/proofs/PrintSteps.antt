@@ -8,8 +8,8 @@ use Rattle.std.proofs.Common.{refl, sym, ap, ◌∙◌, append_assoc, arith}
 use Rattle.std.proofs.lemmas.Bool.Decides.{nat_tests}
 use Rattle.sg_spec.specs.Tree.{Tree, numeral, here, param, add, neg, mul, div, power, sum_from, prod_from}
 use Rattle.sg_spec.specs.Printing.{is_constant_tree, IsShort}
-use Rattle.sg_text.specs.declared.print.ProductForm.{ProductForm}
-use Rattle.sg_text.specs.declared.print.ProductForm.TheVariants.{Full, Binomial}
+use Rattle.sg_text.specs.declared.printing.ProductForm.{ProductForm}
+use Rattle.sg_text.specs.declared.printing.ProductForm.TheVariants.{Full, Binomial}
 use Rattle.sg_text.specs.PrintedText.{is_first, is_one, is_here, is_minus_here, body_form, written, left_of, added_text, plain}
 
 pub plain_added : (v p bound : ℕ) (x y : Tree) → plain (written v p bound (add x y)) ≡ plain (written v p bound x) ++ added_text v p bound y

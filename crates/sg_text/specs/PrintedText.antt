@@ -16,10 +16,10 @@ use Rattle.std.specs.Fmt.{decimal}
 use Rattle.sg_spec.specs.Tree.{Tree, numeral, here, param, add, neg, mul, div, power, sum_from, prod_from}
 use Rattle.sg_spec.specs.Syntax.{Spot, Placed, number, named, negated, added, subtracted, multiplied, divided, raised, sum_call, product_call, harmonic, harmonic_of_order, factorial, binomial, constant_power}
 use Rattle.sg_spec.specs.Printing.{is_constant_tree}
-use Rattle.sg_text.specs.declared.print.ProductForm.{ProductForm}
-use Rattle.sg_text.specs.declared.print.ProductForm.TheVariants.{Full, Factorial, Binomial, Power}
-use Rattle.sg_text.specs.declared.print.Level.{Level}
-use Rattle.sg_text.specs.declared.print.Level.TheVariants.{Sum, Term, Factor, Atom}
+use Rattle.sg_text.specs.declared.printing.ProductForm.{ProductForm}
+use Rattle.sg_text.specs.declared.printing.ProductForm.TheVariants.{Full, Factorial, Binomial, Power}
+use Rattle.sg_text.specs.declared.printing.Level.{Level}
+use Rattle.sg_text.specs.declared.printing.Level.TheVariants.{Sum, Term, Factor, Atom}
 
 abbrev pub spot_of : ℕ → Spot
 spot_of v = record { place = 0; value = v }

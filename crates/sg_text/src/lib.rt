@@ -1,6 +1,6 @@
 //! The language of texts: which texts read as which expressions, the reader and the printer.
 #![tactic(auto)]
 
-mod print;
+mod printing;
 
-pub use print::print;
+pub use printing::print;

@@ -3,7 +3,7 @@ use Rattle.std.proofs.lemmas.Grind.{common_steps}
 use Rattle.std.proofs.lemmas.Result.{on_ok_weaker}
 use Rattle.sg_expr.specs.Tree.{tree_of}
 use Rattle.sg_text.proofs.PrintSteps.{onto_added, onto_left}
-use Rattle.sg_text.proofs.print.+write.Goals as goal
+use Rattle.sg_text.proofs.printing.+write.Goals as goal
 
 pub write-returns-in_ok-write-in-Add-clause-text :
     goal.write-returns-in_ok-write-in-Add-clause-text

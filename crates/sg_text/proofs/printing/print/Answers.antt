@@ -6,7 +6,7 @@ use Rattle.sg_text.specs.PrintedText.{printed}
 use Rattle.sg_expr.specs.Tree.{tree_of}
 use Rattle.sg_text.proofs.PrintReads.{reads-printed}
 use Rattle.sg_text.proofs.PrintBounds.{is_read}
-use Rattle.sg_text.proofs.print.print.Goals as goal
+use Rattle.sg_text.proofs.printing.print.Goals as goal
 use Rattle.std.specs.Prelude.{◌≡◌}
 
 reads : (w names : List ℕ) (e : Tree) → w ≡ printed names e → AreNames names → SparesBound names → InForm (has_parameter names) false e → IsShort e → Reads w names e

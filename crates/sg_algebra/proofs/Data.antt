@@ -4,6 +4,7 @@
 --     meaning-add, -sub, -mul, -div, -zero, -one      the values of the operations
 --     same, back                                      valid data are equal exactly where their values are
 --   datum_same, same_datum    these two, by name
+--   zero_meaning              the value is zero only where the datum is equal to 0
 --   decide_datum              so equality of valid data is decided
 --   entry_is                  the coefficient's value is the coefficient of the values
 use Rattle.std.proofs.Common.{◌≡◌, ◌≢◌, ℕ, zero, suc, ◌<◌, refl, sym, ◌∙◌, ap, ap₂, List, [], ◌∷◌, map, inl, inr, ℤ, pos, unsigned_abs, mul-pos, arith}
@@ -82,10 +83,13 @@ module _ (d : ℕ) (H : Meaningful d) where
   abbrev ValidList : List (Datum d) → Type 0
   ValidList p = Each (Valid d) p
 
-  product_valid : (p q : List (Datum d)) → ValidList p → ValidList q → ValidList (product_list o z p q)
+  abbrev times : List (Datum d) → List (Datum d) → List (Datum d)
+  times p q = product_list o z p q
+
+  product_valid : (p q : List (Datum d)) → ValidList p → ValidList q → ValidList (times p q)
   product_valid p q g h = each-conv (Valid d) o.add o.mul H.valid_add H.valid_mul z H.valid_zero p q g h
 
-  product_is : (p q : List (Datum d)) → ValidList p → ValidList q → values (product_list o z p q) ≡ values p ⊗ values q
+  product_is : (p q : List (Datum d)) → ValidList p → ValidList q → values (times p q) ≡ values p ⊗ values q
   product_is p q g h =
       map-conv (meaning d) (Valid d) o.add o.mul ◌+ᵛ◌ ◌*ᵛ◌ H.valid_add H.valid_mul H.meaning-add H.meaning-mul z H.valid_zero p q g h
       ∙ ap (λ c. conv ◌+ᵛ◌ ◌*ᵛ◌ c (values p) (values q)) H.meaning-zero
@@ -138,8 +142,8 @@ module _ (d : ℕ) (H : Meaningful d) where
     | inr e ↦ (e.0, λ s. e.1.lead (sym (entry_meaning q e.0) ∙ H.same (entry d q e.0) z (entry_valid q e.0 g) H.valid_zero s ∙ H.meaning-zero))
   ]
 
-  product_some : (p q : List (Datum d)) → ValidList p → ValidList q → ¬ (values p ≋ []) → ¬ (values q ≋ []) → SomeEntry (product_list o z p q)
-  product_some p q g h a b = ne_values (product_list o z p q) (product_valid p q g h) (rw (product_is p q g h) (product_ne (PolyD (ValueD d)) a b))
+  product_some : (p q : List (Datum d)) → ValidList p → ValidList q → ¬ (values p ≋ []) → ¬ (values q ≋ []) → SomeEntry (times p q)
+  product_some p q g h a b = ne_values (times p q) (product_valid p q g h) (rw (product_is p q g h) (product_ne (PolyD (ValueD d)) a b))
 
   one_ne_list : (x : Value d) → x ≡ one_value → ¬ ((x ∷ []) ≋ [])
   one_ne_list x e h = value_one_ne d (sym e ∙ h.image.at 0)
@@ -156,33 +160,33 @@ module _ (d : ℕ) (H : Meaningful d) where
   -- what isn't zero has an upper list that isn't
   upper_ne : (x : Datum (suc d)) → Valid (suc d) x → ¬ (meaning (suc d) x ≡ zero_value) → ¬ (values x.0 ≋ [])
   unfolding meaning
-  upper_ne x g n e = n (over_value_same d (values x.0) (values x.1) [] (values x.1) (lower_ne x g) (lower_ne x g) ((PolyR (ValueR d)).trans ((PolyR (ValueR d)).mul_cong e (PolyR (ValueR d)).rfl) (PolyR (ValueR d)).rfl) ∙ over_value-zero d (values x.1) (lower_ne x g))
+  upper_ne x g n e = n (over_value_same d (values x.0) (values x.1) [] (values x.1) (lower_ne x g) (lower_ne x g) ((PolyR (ValueR d)).mul_cong e (PolyR (ValueR d)).rfl) ∙ over_value-zero d (values x.1) (lower_ne x g))
 
   -- ---- The operations and equality
 
-  cross_is : (p q r s : List (Datum d)) → ValidList p → ValidList q → ValidList r → ValidList s → ((n : ℕ) → SameDatum d (entry d (product_list o z p s) n) (entry d (product_list o z r q) n)) → values p ⊗ values s ≋ values r ⊗ values q
+  cross_is : (p q r s : List (Datum d)) → ValidList p → ValidList q → ValidList r → ValidList s → ((n : ℕ) → SameDatum d (entry d (times p s) n) (entry d (times r q) n)) → values p ⊗ values s ≋ values r ⊗ values q
   cross_is p q r s vp vq vr vs e = record {
     image = record {
-      at = λ n. rw (← (product_is p s vp vs), ← (product_is r q vr vq), ← (entry_meaning (product_list o z p s) n), ← (entry_meaning (product_list o z r q) n))
-          (H.same (entry d (product_list o z p s) n) (entry d (product_list o z r q) n) (entry_valid (product_list o z p s) n (product_valid p s vp vs)) (entry_valid (product_list o z r q) n (product_valid r q vr vq)) (e n));
+      at = λ n. rw (← (product_is p s vp vs), ← (product_is r q vr vq), ← (entry_meaning (times p s) n), ← (entry_meaning (times r q) n))
+          (H.same (entry d (times p s) n) (entry d (times r q) n) (entry_valid (times p s) n (product_valid p s vp vs)) (entry_valid (times r q) n (product_valid r q vr vq)) (e n));
     };
   }
 
-  is_cross : (p q r s : List (Datum d)) → ValidList p → ValidList q → ValidList r → ValidList s → values p ⊗ values s ≋ values r ⊗ values q → (n : ℕ) → SameDatum d (entry d (product_list o z p s) n) (entry d (product_list o z r q) n)
+  is_cross : (p q r s : List (Datum d)) → ValidList p → ValidList q → ValidList r → ValidList s → values p ⊗ values s ≋ values r ⊗ values q → (n : ℕ) → SameDatum d (entry d (times p s) n) (entry d (times r q) n)
   is_cross p q r s vp vq vr vs e n =
-      H.back (entry d (product_list o z p s) n) (entry d (product_list o z r q) n) (entry_valid (product_list o z p s) n (product_valid p s vp vs)) (entry_valid (product_list o z r q) n (product_valid r q vr vq))
-      (rw (entry_meaning (product_list o z p s) n, entry_meaning (product_list o z r q) n, product_is p s vp vs, product_is r q vr vq) (e.image.at n))
+      H.back (entry d (times p s) n) (entry d (times r q) n) (entry_valid (times p s) n (product_valid p s vp vs)) (entry_valid (times r q) n (product_valid r q vr vq))
+      (rw (entry_meaning (times p s) n, entry_meaning (times r q) n, product_is p s vp vs, product_is r q vr vq) (e.image.at n))
 
   meaningful_suc : Meaningful (suc d)
   unfolding meaning
   meaningful_suc = record {
     valid_add = λ x y g h. (
-      sum_valid (product_list o z x.0 y.1) (product_list o z y.0 x.1) (product_valid x.0 y.1 g.0 h.1) (product_valid y.0 x.1 h.0 g.1),
+      sum_valid (times x.0 y.1) (times y.0 x.1) (product_valid x.0 y.1 g.0 h.1) (product_valid y.0 x.1 h.0 g.1),
       product_valid x.1 y.1 g.1 h.1,
       product_some x.1 y.1 g.1 h.1 (lower_ne x g) (lower_ne y h),
     );
     valid_sub = λ x y g h. (
-      difference_valid (product_list o z x.0 y.1) (product_list o z y.0 x.1) (product_valid x.0 y.1 g.0 h.1) (product_valid y.0 x.1 h.0 g.1),
+      difference_valid (times x.0 y.1) (times y.0 x.1) (product_valid x.0 y.1 g.0 h.1) (product_valid y.0 x.1 h.0 g.1),
       product_valid x.1 y.1 g.1 h.1,
       product_some x.1 y.1 g.1 h.1 (lower_ne x g) (lower_ne y h),
     );
@@ -191,10 +195,10 @@ module _ (d : ℕ) (H : Meaningful d) where
     valid_zero = (tt, (H.valid_one, tt), one_some);
     valid_one = ((H.valid_one, tt), (H.valid_one, tt), one_some);
     meaning-add = λ x y g h.
-        ap₂ over_value (sum_is (product_list o z x.0 y.1) (product_list o z y.0 x.1) (product_valid x.0 y.1 g.0 h.1) (product_valid y.0 x.1 h.0 g.1) ∙ ap₂ ◌⊕◌ (product_is x.0 y.1 g.0 h.1) (product_is y.0 x.1 h.0 g.1)) (product_is x.1 y.1 g.1 h.1)
+        ap₂ over_value (sum_is (times x.0 y.1) (times y.0 x.1) (product_valid x.0 y.1 g.0 h.1) (product_valid y.0 x.1 h.0 g.1) ∙ ap₂ ◌⊕◌ (product_is x.0 y.1 g.0 h.1) (product_is y.0 x.1 h.0 g.1)) (product_is x.1 y.1 g.1 h.1)
         ∙ over_value-add d (values x.0) (values x.1) (values y.0) (values y.1) (lower_ne x g) (lower_ne y h);
     meaning-sub = λ x y g h.
-        ap₂ over_value (difference_is (product_list o z x.0 y.1) (product_list o z y.0 x.1) (product_valid x.0 y.1 g.0 h.1) (product_valid y.0 x.1 h.0 g.1) ∙ ap₂ (λ a b. a ⊕ ⊖ b) (product_is x.0 y.1 g.0 h.1) (product_is y.0 x.1 h.0 g.1)) (product_is x.1 y.1 g.1 h.1)
+        ap₂ over_value (difference_is (times x.0 y.1) (times y.0 x.1) (product_valid x.0 y.1 g.0 h.1) (product_valid y.0 x.1 h.0 g.1) ∙ ap₂ (λ a b. a ⊕ ⊖ b) (product_is x.0 y.1 g.0 h.1) (product_is y.0 x.1 h.0 g.1)) (product_is x.1 y.1 g.1 h.1)
         ∙ over_value-sub d (values x.0) (values x.1) (values y.0) (values y.1) (lower_ne x g) (lower_ne y h);
     meaning-mul = λ x y g h.
         ap₂ over_value (product_is x.0 y.0 g.0 h.0) (product_is x.1 y.1 g.1 h.1)
@@ -219,6 +223,10 @@ datum_same d = (meaningful d).same
 
 pub same_datum : (d : ℕ) (x y : Datum d) → Valid d x → Valid d y → meaning d x ≡ meaning d y → SameDatum d x y
 same_datum d = (meaningful d).back
+
+-- a valid datum with the value zero is equal to 0
+pub zero_meaning : (d : ℕ) (x : Datum d) → Valid d x → meaning d x ≡ zero_value → SameDatum d x (zero_datum d)
+zero_meaning d x g e = same_datum d x (zero_datum d) g (meaningful d).valid_zero (e ∙ sym (meaningful d).meaning-zero)
 
 pub decide_datum : (d : ℕ) (x y : Datum d) → Valid d x → Valid d y → Dec (SameDatum d x y)
 decide_datum d x y g h = elim (value_same d (meaning d x) (meaning d y)) [ yes e ↦ yes (same_datum d x y g h e) | no n ↦ no (λ s. n (datum_same d x y g h s)) ]

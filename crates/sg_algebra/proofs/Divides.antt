@@ -2,11 +2,12 @@
 --   Divides R a b     b is a times a cofactor; `Divides R x I` says that x is a unit
 --   dvd_refl, dvd_trans, dvd_same    an order, up to equality of either side
 --   dvd_O, dvd-add, dvd-sub, dvd-scale, dvd-mul    of zero, of a sum, of a difference, of a multiple, of products on both sides
---   identity, on-O, on-neg, dvd_on   the identity as a map; every map between rings keeps zero, negatives and divisibility
+--   identity, after                  the identity as a map, and one map after another
+--   on-O, on-neg, on-nat, on-pow, dvd_on    every map between rings keeps zero, negatives, numerals, powers and divisibility
 --   iter σ n x        the map σ, n times
 use Rattle.std.proofs.Common.{ℕ, zero, suc, refl, [], ◌∷◌}
 use Rattle.sg_algebra.specs.Ring.{Ring, Hom}
-use Rattle.sg_algebra.proofs.Ring.{cancel, neg_is, mul_O}
+use Rattle.sg_algebra.proofs.Ring.{nat, pow, cancel, neg_is, mul_O}
 use Rattle.sg_algebra.proofs.Solver.{by, scale, reads}
 
 pub record Divides (R : Ring) (a b : R.A) : Type 0 where
@@ -67,8 +68,29 @@ module _ (R S : Ring) (σ : Hom R S) where
   pub on-neg : (x : A) → σ.on (⊟ x) ≈ S.⊟ (σ.on x)
   on-neg x = neg_is S (trans (symm (σ.on-add x (⊟ x))) (trans (σ.on_cong (x ⊞ ⊟ x) O R.add_neg) on-O))
 
+  pub on-nat : (n : ℕ) → σ.on (nat R n) ≈ nat S n
+  on-nat zero = on-O
+  on-nat (suc n) = trans (σ.on-add (nat R n) R.I) (S.add_cong (on-nat n) σ.on-one)
+
+  pub on-pow : (x : A) (n : ℕ) → σ.on (pow R x n) ≈ pow S (σ.on x) n
+  on-pow x zero = σ.on-one
+  on-pow x (suc n) = trans (σ.on-mul (pow R x n) x) (S.mul_cong (on-pow x n) S.rfl)
+
   pub dvd_on : (a b : A) → Divides R a b → Divides S (σ.on a) (σ.on b)
   dvd_on a b d = record { cofactor = σ.on d.cofactor; is = trans (σ.on_cong b (a ⊠ d.cofactor) d.is) (σ.on-mul a d.cofactor) }
+
+module _ (R S T : Ring) (σ : Hom R S) (τ : Hom S T) where
+  open T use {trans}
+
+  -- one map after another
+  abbrev pub after : Hom R T
+  after = record {
+    on = λ x. τ.on (σ.on x);
+    on_cong = λ x y h. τ.on_cong (σ.on x) (σ.on y) (σ.on_cong x y h);
+    on-add = λ x y. trans (τ.on_cong (σ.on (R.◌⊞◌ x y)) (S.◌⊞◌ (σ.on x) (σ.on y)) (σ.on-add x y)) (τ.on-add (σ.on x) (σ.on y));
+    on-mul = λ x y. trans (τ.on_cong (σ.on (R.◌⊠◌ x y)) (S.◌⊠◌ (σ.on x) (σ.on y)) (σ.on-mul x y)) (τ.on-mul (σ.on x) (σ.on y));
+    on-one = trans (τ.on_cong (σ.on R.I) S.I σ.on-one) τ.on-one;
+  }
 
 module _ (R : Ring) (σ : Hom R R) where
   open R use {A, ◌≈◌, ◌⊠◌, rfl, trans}

@@ -1,6 +1,7 @@
--- The solvers at work: each is an identity that the solver proves, read by anyone who wants to use it.
-use Rattle.std.proofs.Common.{◌≡◌, refl, [], ◌∷◌, ℤ, pos, negsuc, ◌+ℤ◌, ◌-ℤ◌, ◌*ℤ◌, ℕ}
+-- The solvers at work, each on an identity that it proves; and some data, their sums and their equality.
+use Rattle.std.proofs.Common.{zero, suc, ◌≡◌, refl, [], ◌∷◌, ℤ, pos, negsuc, ◌+ℤ◌, ◌-ℤ◌, ◌*ℤ◌, ℕ}
 use Rattle.sg_algebra.specs.Ring.{Ring, Field}
+use Rattle.sg_algebra.specs.Datum.{Datum, zero_datum, one_datum, entry, operations, SameDatum, Valid}
 use Rattle.sg_algebra.proofs.Ring.{nat, pow}
 use Rattle.sg_algebra.proofs.Solver.{ring, by, scale, reads, Reads, r_num}
 use Rattle.sg_algebra.proofs.Whole.{ℤR, readsℤ}
@@ -46,3 +47,42 @@ module _ (F : Field) where
     where
       square_ne : ¬ (x ⊠ x ⊞ ⊟ (y ⊠ y) ≈ O)
       square_ne z = ne F [] h i (trans (ring R (x ∷ y ∷ []) (search reads depth 12) refl) z)
+
+-- ---- Data
+
+half : Datum 0
+half = record { num = pos 1; den = 2 }
+
+two_quarters : SameDatum 0 half (record { num = pos 2; den = 4 })
+unfolding half
+two_quarters = refl
+
+-- 1/k and k/k
+one_over_k : Datum 1
+one_over_k = (one_datum 0 ∷ [], zero_datum 0 ∷ one_datum 0 ∷ [])
+
+k_over_k : Datum 1
+k_over_k = (zero_datum 0 ∷ one_datum 0 ∷ [], zero_datum 0 ∷ one_datum 0 ∷ [])
+
+k_over_k-same : SameDatum 1 k_over_k (one_datum 1)
+unfolding k_over_k
+k_over_k-same zero = refl
+k_over_k-same (suc zero) = refl
+k_over_k-same (suc (suc n)) = refl
+
+-- 1/k + 1/k is 2k/k², and so 2/k
+sum_over_k : SameDatum 1 ((operations 1).add one_over_k one_over_k) (record { num = pos 2; den = 1 } ∷ [], zero_datum 0 ∷ one_datum 0 ∷ [])
+unfolding one_over_k
+sum_over_k zero = refl
+sum_over_k (suc zero) = refl
+sum_over_k (suc (suc zero)) = refl
+sum_over_k (suc (suc (suc zero))) = refl
+sum_over_k (suc (suc (suc (suc n)))) = refl
+
+-- 1/0 isn't valid, 1/k is
+zero_below : ¬ Valid 1 (one_datum 0 ∷ [], zero_datum 0 ∷ [])
+zero_below v = v.2.1 (at v.2.0)
+  where
+    at : (n : ℕ) → SameDatum 0 (entry 0 (zero_datum 0 ∷ []) n) (zero_datum 0)
+    at zero = refl
+    at (suc n) = refl

@@ -23,10 +23,6 @@ pub level_path : (d : ℕ) (x y : K d) → (Level d).R.◌≈◌ x y → x ≡ y
 level_path zero x y e = e
 level_path (suc d) x y e = e
 
-pub path_level : (d : ℕ) (x y : K d) → x ≡ y → (Level d).R.◌≈◌ x y
-path_level zero x y e = e
-path_level (suc d) x y e = e
-
 pub level_inv-O : (d : ℕ) → (Level d).inv (Level d).R.O ≡ (Level d).R.O
 level_inv-O zero = ratio_inv-O ℤD
 level_inv-O (suc d) = ratio_inv-O (PolyD (domain (Level d)))

@@ -9,6 +9,8 @@ mod Examples
 pub mod Divides
 pub mod Coprime
 pub mod Euclid
+pub mod WholeDivisors
+pub mod Divisor
 pub mod Pull
 pub mod Series
 pub mod PolynomialRing
@@ -19,7 +21,9 @@ pub mod Division
 pub mod Roots
 pub mod Shift
 pub mod PolynomialLowest
+pub mod Strip
 pub mod Quotient
+pub mod MonicLowest
 pub mod Classes
 pub mod Ratio
 pub mod Level
@@ -28,8 +32,7 @@ pub mod ValueField
 pub mod Lists
 pub mod OverValue
 pub mod Rational
+pub mod Embedding
 pub mod Data
 pub mod Sums
 pub mod Polynomial
-pub mod WholeDivisors
-pub mod Divisor

@@ -14,22 +14,9 @@ use Rattle.sg_algebra.specs.Coefficients.{coef, horner, eval}
 use Rattle.sg_algebra.proofs.Ring.{nat, mul_O, O_add}
 use Rattle.sg_algebra.proofs.Solver.{ring, by, scale, reads}
 use Rattle.sg_algebra.proofs.Horner.{horner_cong}
-use Rattle.sg_algebra.proofs.Divides.{identity, iter, on-O}
+use Rattle.sg_algebra.proofs.Divides.{identity, after, iter, on-O}
 use Rattle.sg_algebra.proofs.PolynomialRing.{PolyR, constantH, cons_cong, coef-zip, coef-mul, one-series_mul}
 use Rattle.sg_algebra.proofs.Evaluation.{evalH, compose, composeH, compose-X, compose_cong, compose-compose, compose-eval}
-
-module _ (R S T : Ring) (σ : Hom R S) (τ : Hom S T) where
-  open T use {trans}
-
-  -- one map after another
-  abbrev pub after : Hom R T
-  after = record {
-    on = λ x. τ.on (σ.on x);
-    on_cong = λ x y h. τ.on_cong (σ.on x) (σ.on y) (σ.on_cong x y h);
-    on-add = λ x y. trans (τ.on_cong (σ.on (R.◌⊞◌ x y)) (S.◌⊞◌ (σ.on x) (σ.on y)) (σ.on-add x y)) (τ.on-add (σ.on x) (σ.on y));
-    on-mul = λ x y. trans (τ.on_cong (σ.on (R.◌⊠◌ x y)) (S.◌⊠◌ (σ.on x) (σ.on y)) (σ.on-mul x y)) (τ.on-mul (σ.on x) (σ.on y));
-    on-one = trans (τ.on_cong (σ.on R.I) S.I σ.on-one) τ.on-one;
-  }
 
 module _ (R : Ring) where
   open R use {A, ◌≈◌, ◌⊞◌, ◌⊠◌, ⊟, O, I, rfl, symm, trans, add_cong, mul_cong, add_O, add_comm}

@@ -1,2 +1,3 @@
 pub mod Signs
 pub mod Terms
+pub mod Numbers

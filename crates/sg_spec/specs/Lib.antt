@@ -7,5 +7,7 @@ pub mod Syntax
 pub mod Reading
 pub mod Generators
 pub mod Closed
+pub mod Limits
+pub mod Plain
 pub mod Parameter
 pub mod Printing

@@ -10,3 +10,6 @@ mod words;
 
 pub use status::Status;
 pub use top::sigma;
+
+#[cfg(test)]
+mod tests;

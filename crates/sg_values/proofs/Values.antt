@@ -39,7 +39,7 @@ opposite_proper : (u : Option Fraction) → IsProper u → IsProper (opposite_of
 opposite_proper (Some x) h = product_positive 1 x.den (omega arith) h
 opposite_proper None h = tt
 
-power_proper : (u : Option Fraction) (e : ℕ) → IsProper u → IsProper (power_of u e)
+pub power_proper : (u : Option Fraction) (e : ℕ) → IsProper u → IsProper (power_of u e)
 power_proper None e h = tt
 power_proper (Some x) zero h = omega arith
 power_proper (Some x) (suc e) h = product_proper (power_of (Some x) e) (Some x) (power_proper (Some x) e h) h

@@ -1,0 +1,129 @@
+ghost use Rattle.std.specs.Prelude.{◌≡◌, ◌+◌, [], ◌∷◌, ◌++◌, length, drop, max, IfOk, IfErr};
+ghost use Rattle.sg_algebra.proofs.Value.{Value, ◌+ᵛ◌, ◌*ᵛ◌, neg_value, one_value};
+ghost use Rattle.sg_algebra.proofs.Rational.{whole_value};
+ghost use Rattle.sg_algebra.proofs.ValueField.{ValueR};
+ghost use Rattle.sg_algebra.proofs.Ring.{pow};
+ghost use Rattle.sg_num.specs.Value.{number};
+ghost use Rattle.sg_num.specs.Stopped.{KeepsWideStep};
+ghost use Rattle.sg_plain.specs.Evaluation.{value_at};
+
+use crate::step::{product, sum};
+use sg_num::{Rat, Row, Stop};
+use std::alloc::{AllocError, Global};
+
+// The coefficient at i; 0 past the end.
+fn coefficient(p: &[Rat], i: usize) -> Rat
+    ensures { (x : Value 0) → value_at (drop i p.now) x ≡ number result +ᵛ x *ᵛ value_at (drop (i + 1) p.now) x }
+{
+    if i < p.len() { p[i] } else { Rat::whole(0) }
+}
+
+/// p + c q.
+pub fn with_multiple(alloc: Global, p: &[Rat], c: Rat, q: &[Rat]) -> Result<Row<Rat>, Stop>
+    ensures value { IfOk result (λ r. (x : Value 0) → value_at r x ≡ value_at p.now x +ᵛ number c *ᵛ value_at q.now x) }
+    ensures size { IfOk result (λ r. length r ≡ max (length p.now) (length q.now)) }
+    ensures wide { IfErr result KeepsWideStep }
+{
+    let mut result = Row::new(alloc);
+    let size = p.len().max(q.len());
+    for i in 0..size {
+        let more = product(c, coefficient(q, i))?;
+        let next = sum(coefficient(p, i), more)?;
+        result.push(next)?;
+    }
+    Ok(result)
+}
+
+/// x p.
+pub fn shifted(alloc: Global, p: &[Rat]) -> Result<Row<Rat>, AllocError>
+    ensures value { IfOk result (λ r. (x : Value 0) → value_at r x ≡ x *ᵛ value_at p.now x) }
+    ensures size { IfOk result (λ r. length r ≡ length p.now + 1) }
+{
+    let mut result = Row::new(alloc);
+    result.push(Rat::whole(0))?;
+    for c in p {
+        result.push(*c)?;
+    }
+    Ok(result)
+}
+
+/// p q, by the school's rule.
+pub fn times(alloc: Global, p: &[Rat], q: &[Rat]) -> Result<Row<Rat>, Stop>
+    ensures value { IfOk result (λ r. (x : Value 0) → value_at r x ≡ value_at p.now x *ᵛ value_at q.now x) }
+    ensures wide { IfErr result KeepsWideStep }
+{
+    match p.split_first() {
+        None => Ok(Row::new(alloc)),
+        Some((c, rest)) => {
+            let above = times(alloc, rest, q)?;
+            let above = shifted(alloc, above.as_slice())?;
+            let all = with_multiple(alloc, above.as_slice(), *c, q)?;
+            Ok(all)
+        }
+    }
+}
+
+/// p to the power e.
+pub fn power(alloc: Global, p: &[Rat], e: u128) -> Result<Row<Rat>, Stop>
+    ensures value { IfOk result (λ r. (x : Value 0) → value_at r x ≡ pow (ValueR 0) (value_at p.now x) e) }
+    ensures wide { IfErr result KeepsWideStep }
+{
+    let mut result = one(alloc)?;
+    for done in 0..e {
+        let _ = done;
+        result = times(alloc, p, result.as_slice())?;
+    }
+    Ok(result)
+}
+
+/// The constant c.
+pub fn constant(alloc: Global, c: Rat) -> Result<Row<Rat>, AllocError>
+    ensures { IfOk result (λ r. r ≡ c ∷ []) }
+{
+    let mut result = Row::new(alloc);
+    result.push(c)?;
+    Ok(result)
+}
+
+/// p + q.
+pub fn added(alloc: Global, p: &[Rat], q: &[Rat]) -> Result<Row<Rat>, Stop>
+    ensures value { IfOk result (λ r. (x : Value 0) → value_at r x ≡ value_at p.now x +ᵛ value_at q.now x) }
+    ensures wide { IfErr result KeepsWideStep }
+{
+    let sum = with_multiple(alloc, p, Rat::whole(1), q)?;
+    Ok(sum)
+}
+
+/// -p.
+pub fn opposite(alloc: Global, p: &[Rat]) -> Result<Row<Rat>, Stop>
+    ensures value { IfOk result (λ r. (x : Value 0) → value_at r x ≡ neg_value (value_at p.now x)) }
+    ensures wide { IfErr result KeepsWideStep }
+{
+    let negated = with_multiple(alloc, &[], Rat::whole(-1), p)?;
+    Ok(negated)
+}
+
+/// The constant 1.
+pub fn one(alloc: Global) -> Result<Row<Rat>, AllocError>
+    ensures { IfOk result (λ r. (x : Value 0) → value_at r x ≡ one_value) }
+{
+    let p = constant(alloc, Rat::whole(1))?;
+    Ok(p)
+}
+
+/// The variable.
+pub fn variable(alloc: Global) -> Result<Row<Rat>, AllocError>
+    ensures { IfOk result (λ r. (x : Value 0) → value_at r x ≡ x) }
+{
+    let p = one(alloc)?;
+    let p = shifted(alloc, p.as_slice())?;
+    Ok(p)
+}
+
+/// The whole number n.
+pub fn whole(alloc: Global, n: i128) -> Result<Row<Rat>, AllocError>
+    ensures { IfOk result (λ r. (x : Value 0) → value_at r x ≡ whole_value 0 n) }
+{
+    let p = constant(alloc, Rat::whole(n))?;
+    Ok(p)
+}

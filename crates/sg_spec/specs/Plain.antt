@@ -1,0 +1,84 @@
+-- Plain polynomials, and the canonical form of a polynomial.
+--   IsPlain             built from numerals, the variable, sums, products, opposites and powers alone
+--   weight              a bound on the sizes of the coefficients: a numeral weighs its size and at least 1, the variable 1
+--   monomial c e        c times the e-th power of the variable; a factor 1 and an exponent 1 aren't written, nor is the power with exponent 0
+--   joined              a sum with one more term, by its sign; a term 0 isn't written
+--   numerator           the sum of the terms with these coefficients, the highest first
+--   leads_below_zero    the highest coefficient that isn't 0 is below 0
+--   canonical           the tree of the polynomial with these whole coefficients, the highest first, over this denominator
+--   IsCanonical         such a tree of coefficients and a denominator without common divisor
+use Rattle.std.specs.Prelude.{◌≡◌, ℕ, zero, suc, ◌+◌, ◌*◌, ◌^◌, ◌<◌, max, ℤ, pos, negsuc, neg_ℤ, unsigned_abs, Bool, true, false, cond, ◌==◌, List, [], ◌∷◌, length, map}
+use Rattle.sg_algebra.specs.Divisor.{gcd}
+use Rattle.sg_spec.specs.Tree.{Tree, numeral, here, param, add, neg, mul, div, power, sum_from, prod_from}
+
+abbrev pub IsPlain : Tree → Type 0
+IsPlain (numeral c) = Unit {0}
+IsPlain here = Unit {0}
+IsPlain param = ⊥
+IsPlain (add x y) = IsPlain x × IsPlain y
+IsPlain (neg x) = IsPlain x
+IsPlain (mul x y) = IsPlain x × IsPlain y
+IsPlain (div x y) = ⊥
+IsPlain (power x e) = IsPlain x
+IsPlain (sum_from from body) = ⊥
+IsPlain (prod_from from body) = ⊥
+
+abbrev pub weight : Tree → ℕ
+weight (numeral c) = max 1 (unsigned_abs c)
+weight here = 1
+weight param = 1
+weight (add x y) = weight x + weight y
+weight (neg x) = weight x
+weight (mul x y) = weight x * weight y
+weight (div x y) = weight x * weight y
+weight (power x e) = weight x ^ e
+weight (sum_from from body) = 1
+weight (prod_from from body) = 1
+
+abbrev pub raised : ℕ → Tree
+raised zero = numeral (pos 1)
+raised (suc zero) = here
+raised (suc (suc e)) = power here (suc (suc e))
+
+-- the coefficient isn't 0
+abbrev pub monomial : ℕ → ℕ → Tree
+monomial c zero = numeral (pos c)
+monomial c (suc e) = cond (c == 1) (raised (suc e)) (mul (numeral (pos c)) (raised (suc e)))
+
+abbrev pub joined : Tree → ℤ → ℕ → Tree
+joined t (pos zero) e = t
+joined t (pos (suc c)) e = add t (monomial (suc c) e)
+joined t (negsuc c) e = add t (neg (monomial (suc c) e))
+
+abbrev pub with_terms : Tree → List ℤ → Tree
+with_terms t [] = t
+with_terms t (c ∷ cs) = with_terms (joined t c (length cs)) cs
+
+abbrev pub numerator : List ℤ → Tree
+numerator [] = numeral (pos 0)
+numerator (pos zero ∷ cs) = numerator cs
+numerator (pos (suc c) ∷ cs) = with_terms (monomial (suc c) (length cs)) cs
+numerator (negsuc c ∷ cs) = with_terms (neg (monomial (suc c) (length cs))) cs
+
+abbrev pub leads_below_zero : List ℤ → Bool
+leads_below_zero [] = false
+leads_below_zero (pos zero ∷ cs) = leads_below_zero cs
+leads_below_zero (pos (suc c) ∷ cs) = false
+leads_below_zero (negsuc c ∷ cs) = true
+
+-- over 1 each term has its own sign; over another denominator one sign stands before the quotient
+abbrev pub canonical : List ℤ → ℕ → Tree
+canonical cs d =
+    cond (d == 1) (numerator cs)
+    (cond (leads_below_zero cs) (neg (div (numerator (map neg_ℤ cs)) (numeral (pos d)))) (div (numerator cs) (numeral (pos d))))
+
+abbrev pub common_divisor : List ℤ → ℕ → ℕ
+common_divisor [] d = d
+common_divisor (c ∷ cs) d = gcd (unsigned_abs c) (common_divisor cs d)
+
+pub record IsCanonical (h : Tree) : Type 0 where
+  pub coefficients : List ℤ
+  pub denominator : ℕ
+  pub positive : 0 < denominator
+  pub lowest : common_divisor coefficients denominator ≡ 1
+  pub form : h ≡ canonical coefficients denominator

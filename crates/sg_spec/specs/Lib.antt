@@ -11,3 +11,4 @@ pub mod Limits
 pub mod Plain
 pub mod Parameter
 pub mod Steps
+pub mod Printing

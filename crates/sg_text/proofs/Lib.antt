@@ -15,3 +15,8 @@ pub mod Within
 pub mod Exclusive
 pub mod Depth
 pub mod Outcome
+pub mod PrintSteps
+pub mod PrintMeanings
+pub mod PrintCalls
+pub mod PrintReads
+pub mod PrintBounds

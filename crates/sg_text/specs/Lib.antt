@@ -8,3 +8,4 @@ pub mod Scopes
 pub mod Limited
 pub mod Fits
 pub mod Reads
+pub mod PrintedText

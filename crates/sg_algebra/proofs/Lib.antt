@@ -36,3 +36,4 @@ pub mod Embedding
 pub mod Data
 pub mod Sums
 pub mod Polynomial
+pub mod Place

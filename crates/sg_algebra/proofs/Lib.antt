@@ -37,3 +37,4 @@ pub mod Data
 pub mod Sums
 pub mod Polynomial
 pub mod Place
+pub mod Rows

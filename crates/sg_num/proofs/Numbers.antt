@@ -5,9 +5,9 @@
 --   number-zero                        a fraction is 0 exactly where its numerator is
 --   same-number                        equal numbers have the same parts
 --   equal_test                         the test of a derived equality
-use Rattle.std.proofs.Common.{◌≡◌, ◌≢◌, ℕ, suc, ◌*◌, ◌<◌, ℤ, pos, negsuc, ◌<ℤ◌, unsigned_abs, refl, sym, ◌∙◌, ap, arith, rules, Bool, int_eq, ◌&&◌, IsTrue, ◌↔◌}
+use Rattle.std.proofs.Common.{◌≡◌, ◌≢◌, ℕ, suc, ◌*◌, ◌<◌, ℤ, pos, negsuc, ◌<ℤ◌, unsigned_abs, ◌∙◌, ap, arith, rules, Bool, int_eq, ◌&&◌, IsTrue, ◌↔◌}
 use Rattle.std.proofs.lemmas.Int.{ints}
-use Rattle.sg_algebra.proofs.Value.{Value, ◌+ᵛ◌, ◌-ᵛ◌, ◌*ᵛ◌, ◌/ᵛ◌, zero_value, fraction_value}
+use Rattle.sg_algebra.proofs.Value.{◌+ᵛ◌, ◌-ᵛ◌, ◌*ᵛ◌, ◌/ᵛ◌, zero_value, fraction_value}
 use Rattle.sg_algebra.proofs.Rational.{fraction_value-add, fraction_value-sub, fraction_value-mul, fraction_value-over, fraction_value_same, same_fraction_value, zero_fraction_value, fraction_value_zero, fraction_value-whole, whole_value}
 use Rattle.sg_algebra.specs.Divisor.{gcd}
 use Rattle.sg_algebra.proofs.Whole.{ℤR}

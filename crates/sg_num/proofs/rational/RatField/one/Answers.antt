@@ -1,4 +1,4 @@
-use Rattle.std.proofs.Common.{◌∙◌, ap, pos}
+use Rattle.std.proofs.Common.{◌∙◌, ap}
 use Rattle.sg_spec.specs.Fraction.{Fraction}
 use Rattle.sg_algebra.proofs.Value.{fraction_value}
 use Rattle.sg_algebra.proofs.Rational.{fraction_value-one}

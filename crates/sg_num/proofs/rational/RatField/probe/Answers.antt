@@ -1,4 +1,4 @@
-use Rattle.std.proofs.Common.{◌≡◌, length, ◌∙◌, arith}
+use Rattle.std.proofs.Common.{◌∙◌, arith}
 use Rattle.sg_num.proofs.Probed.{probed, taken_whole}
 use Rattle.sg_num.proofs.rational.RatField.probe.Goals as goal
 

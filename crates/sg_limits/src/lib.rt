@@ -11,3 +11,6 @@ mod start;
 pub use fault::LimitFault;
 pub use inspection::{Facts, inspect};
 pub use start::start_of;
+
+#[cfg(test)]
+mod tests;

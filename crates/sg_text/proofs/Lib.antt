@@ -12,3 +12,4 @@ pub mod PrintMeanings
 pub mod PrintCalls
 pub mod PrintReads
 pub mod PrintBounds
+pub mod PrintCosts

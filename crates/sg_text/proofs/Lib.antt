@@ -13,3 +13,4 @@ pub mod PrintCalls
 pub mod PrintReads
 pub mod PrintBounds
 pub mod PrintCosts
+pub mod PrintForms

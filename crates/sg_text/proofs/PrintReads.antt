@@ -35,11 +35,11 @@ pub record Letters (v p : ℕ) (others : List ℕ) : Type 0 where
 differ : (v p : ℕ) → (v ≢ p) → (v == p) ≡ false
 differ v p h = grind (arith, nat_tests)
 
-letter-bound : (b : ℕ) → IsBound b → IsLetter b
+pub letter-bound : (b : ℕ) → IsBound b → IsLetter b
 letter-bound b (inl e) = (omega arith, omega arith)
 letter-bound b (inr e) = (omega arith, omega arith)
 
-bound-next : (b : ℕ) → IsBound b → IsBound (next_bound b)
+pub bound-next : (b : ℕ) → IsBound b → IsBound (next_bound b)
 bound-next b (inl e) = inr (ap next_bound e)
 bound-next b (inr e) = inl (ap next_bound e)
 
@@ -63,10 +63,10 @@ same_parameter : (v b : ℕ) (others : List ℕ) → has_parameter (v ∷ others
 same_parameter v b [] = refl
 same_parameter v b (q ∷ more) = refl
 
-small_limit : (n : ℕ) → is_small n ≡ true → n < 10 ^ 64
+pub small_limit : (n : ℕ) → is_small n ≡ true → n < 10 ^ 64
 small_limit n h = let k : n < 1001 = grind (arith, nat_tests) in omega arith
 
-same : (v : ℕ) → (v == v) ≡ true
+pub same : (v : ℕ) → (v == v) ≡ true
 same v = grind (arith, nat_tests)
 
 is-first : (z : ℤ) → is_first z ≡ true → z ≡ pos 1
@@ -106,7 +106,7 @@ is-power (power x n) r h =
     (omega arith, ap (λ q. power q n) (is-here x (left_true (is_here x) (nat_lt 1 n) both)) ∙ ap (power here) e ∙ ap (λ q. cond q here (power here (suc r))) (sym other))
 is-power y r h = absurd (omega arith)
 
-is-harmonic : (z : ℤ) (x : Tree) (r : ℕ) → harmonic_order z x ≡ suc r → (suc r < 33) × (sum_from z x ≡ harmonic_sum (suc r))
+pub is-harmonic : (z : ℤ) (x : Tree) (r : ℕ) → harmonic_order z x ≡ suc r → (suc r < 33) × (sum_from z x ≡ harmonic_sum (suc r))
 is-harmonic z (div x y) r h =
     let (t, k) = order_if (is_first z) (body_order (div x y)) r h in
     let (u, m) = order_if (is_one x) (power_order y) r k in
@@ -115,7 +115,7 @@ is-harmonic z (div x y) r h =
 is-harmonic z x r h =
     let (t, k) = order_if (is_first z) 0 r h in absurd (omega arith)
 
-split_form : (t : Bool) (f g : ProductForm) → (Full ≡ g → ⊥) → cond t f Full ≡ g → (t ≡ true) × (f ≡ g)
+pub split_form : (t : Bool) (f g : ProductForm) → (Full ≡ g → ⊥) → cond t f Full ≡ g → (t ≡ true) × (f ≡ g)
 split_form true f g d h = (refl, h)
 split_form false f g d h = absurd (d h)
 
@@ -141,18 +141,18 @@ chosen_binomial t true h = refl
 chosen_binomial true false h = cc
 chosen_binomial false false h = cc
 
-abbrev falls : Tree → Bool
+abbrev pub falls : Tree → Bool
 falls (div x y) = is_falling x
 falls x = false
 
-not_binomial : (x : Tree) → falls x ≡ false → body_form x ≡ Binomial → ⊥
+pub not_binomial : (x : Tree) → falls x ≡ false → body_form x ≡ Binomial → ⊥
 not_binomial (neg x) e h = elim (is_quotient x) as (λ t. cond t Power Full ≡ Binomial → ⊥) [ true ↦ λ q. cc | false ↦ λ q. cc ] h
 not_binomial (div x y) e h =
     let t : is_falling x ≡ true = left_true (is_falling x) (is_here y) (chosen_binomial (is_numeral x && is_numeral y) (is_falling x && is_here y) h) in cc
 not_binomial x e h = cc
 
 -- x, its tests, and the tree of a binomial coefficient
-is-binomial : (x o m j : Tree) → body_form (div (add (add x o) m) j) ≡ Binomial → (is_constant_tree x ≡ true) × (div (add (add x o) m) j ≡ div (add (add x (numeral (pos 1))) (neg here)) here)
+pub is-binomial : (x o m j : Tree) → body_form (div (add (add x o) m) j) ≡ Binomial → (is_constant_tree x ≡ true) × (div (add (add x o) m) j ≡ div (add (add x (numeral (pos 1))) (neg here)) here)
 is-binomial x o m j h =
     let s = chosen_binomial false ((is_one o && is_constant_tree x && is_minus_here m) && is_here j) h in
     let top = left_true (is_one o && is_constant_tree x && is_minus_here m) (is_here j) s in
@@ -161,6 +161,18 @@ is-binomial x o m j h =
      ap (λ q. div (add (add x q) m) j) (is-one o (left_true (is_one o) (is_constant_tree x) more))
      ∙ ap (λ q. div (add (add x (numeral (pos 1))) q) j) (is-minus_here m (right_true (is_one o && is_constant_tree x) (is_minus_here m) top))
      ∙ ap (λ q. div (add (add x (numeral (pos 1))) (neg here)) q) (is-here j (right_true (is_one o && is_constant_tree x && is_minus_here m) (is_here j) s)))
+
+-- constants may stand in a product or not
+pub constant-form : (known i j : Bool) (x : Tree) → is_constant_tree x ≡ true → InForm known i x → InForm known j x
+constant-form known i j (numeral z) c h = h
+constant-form known i j param c h = h
+constant-form known i j (add x y) c h =
+    (constant-form known i j x (left_true (is_constant_tree x) (is_constant_tree y) c) h.0, constant-form known i j y (right_true (is_constant_tree x) (is_constant_tree y) c) h.1)
+constant-form known i j (neg x) c h = constant-form known i j x c h
+constant-form known i j (mul x y) c h =
+    (constant-form known i j x (left_true (is_constant_tree x) (is_constant_tree y) c) h.0, constant-form known i j y (right_true (is_constant_tree x) (is_constant_tree y) c) h.1)
+constant-form known i j (power x e) c h = constant-form known i j x c h
+constant-form known i j x c h = cc
 
 module _ (G : Placed → Type 0) where
   abbrev pub Writes : List ℕ → Bool → Tree → Placed → Type 0
@@ -272,18 +284,6 @@ module _ (G : Placed → Type 0) where
   fits-same : (w v : ℕ) → ((w ≡ v) ⊎ (false ≡ true)) → w ≡ v
   fits-same w v (inl e) = e
   fits-same w v (inr c) = cc
-
-  -- constants may stand in a product or not
-  constant-form : (known i j : Bool) (x : Tree) → is_constant_tree x ≡ true → InForm known i x → InForm known j x
-  constant-form known i j (numeral z) c h = h
-  constant-form known i j param c h = h
-  constant-form known i j (add x y) c h =
-      (constant-form known i j x (left_true (is_constant_tree x) (is_constant_tree y) c) h.0, constant-form known i j y (right_true (is_constant_tree x) (is_constant_tree y) c) h.1)
-  constant-form known i j (neg x) c h = constant-form known i j x c h
-  constant-form known i j (mul x y) c h =
-      (constant-form known i j x (left_true (is_constant_tree x) (is_constant_tree y) c) h.0, constant-form known i j y (right_true (is_constant_tree x) (is_constant_tree y) c) h.1)
-  constant-form known i j (power x e) c h = constant-form known i j x c h
-  constant-form known i j x c h = cc
 
   pub writes : (e : Tree) (in_product : Bool) (v w p b : ℕ) (others : List ℕ) → Letters v p others → IsBound b → Fits w v e
       → InForm (has_parameter (v ∷ others)) in_product e → IsShort e → Writes (v ∷ others) in_product e (written w p b e)

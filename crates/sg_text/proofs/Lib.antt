@@ -14,3 +14,4 @@ pub mod PrintReads
 pub mod PrintBounds
 pub mod PrintCosts
 pub mod PrintForms
+pub mod PrintFewest

@@ -189,7 +189,7 @@ Bad = record {
   of_opposite = λ x. omega arith;
 }
 
-holds_if : (t : Bool) (kind : Kind) (place : ℕ) → fault_unless t kind place ≡ [] → t ≡ true
+pub holds_if : (t : Bool) (kind : Kind) (place : ℕ) → fault_unless t kind place ≡ [] → t ≡ true
 holds_if true kind place h = refl
 holds_if false kind place h = cc
 

@@ -5,8 +5,16 @@ pub mod Ranges
 pub mod Words
 pub mod Tables
 pub mod Way
-pub mod Machine
+pub mod Runs
 pub mod Unique
+pub mod Turns
+pub mod Reached
+pub mod FirstFault
+pub mod Capping
+pub mod Within
+pub mod Exclusive
+pub mod Depth
+pub mod Outcome
 pub mod PrintSteps
 pub mod PrintMeanings
 pub mod PrintCalls

@@ -9,7 +9,7 @@ use Rattle.sg_spec.specs.Grammar.{text, Builds}
 use Rattle.sg_spec.specs.Syntax.{Placed, State, at_start, after_byte, after_action, top_tree}
 use Rattle.sg_spec.specs.Reading.{tree_in, HasTree, Reads}
 use Rattle.sg_text.specs.Stack.{stack_after, state_after, finished}
-use Rattle.sg_text.proofs.Machine.{built_is, good_start}
+use Rattle.sg_text.proofs.Runs.{built_is, good_start}
 
 abbrev pub made : List ℕ → State
 made w = finished after_action (stack_after w (text ∷ [])) (state_after after_byte after_action w (text ∷ []) at_start)

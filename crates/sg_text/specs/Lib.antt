@@ -1,3 +1,11 @@
 pub mod Ranges
 pub mod Stack
+pub mod Parts
+pub mod Drafts
+pub mod Machines
+pub mod Firsts
+pub mod Scopes
+pub mod Limited
+pub mod Fits
+pub mod Reads
 pub mod PrintedText

@@ -13,7 +13,7 @@ use Rattle.std.proofs.Common.{refl, sym, ap, ◌∙◌, arith, subst, inl, inr, 
 use Rattle.std.proofs.lemmas.Bool.Decides.{nat_tests}
 use Rattle.std.proofs.lemmas.List.{append-nil, take-append-drop, take-take}
 use Rattle.std.proofs.Math.Seq.{take-length}
-use Rattle.sg_spec.specs.Grammar.{Action, Symbol, span, act, text, rules, IsOneOf, first, later, Spells, nothing, one_byte, by_rule, Builds, none_left, eats, acts, opens_by, IsText, IsFront, IsSyntaxFault}
+use Rattle.sg_spec.specs.Grammar.{Action, Symbol, span, act, text, rules, IsOneOf, first, later, Spells, nothing, one_byte, by_rule, is_act, Builds, none_left, eats, acts, opens_by, IsText, IsFront, IsSyntaxFault}
 use Rattle.sg_spec.specs.Syntax.{rest}
 use Rattle.sg_text.specs.Ranges.{from, in_range}
 use Rattle.sg_text.specs.Stack.{ways, predict, cost, lead, opened, acted, takes, accepts, next, runs, stack_after, state_after, finished}
@@ -268,3 +268,59 @@ fault_at_end w r n = record {
   before = front_before w (length w) (is_front_to (take (length w) w) (subst (λ q. runs q (text ∷ []) ≡ true) (sym (take-length w)) r));
   fault = inr (refl, λ x. n (is_text_from w x).1);
 }
+
+-- more turns than needed change nothing
+opened_enough : (k j b : ℕ) (st : List Symbol) → lead st ≤ k → lead st ≤ j → opened k b st ≡ opened j b st
+opened_enough k j b [] h g = refl
+opened_enough k j b (span low more ∷ parts) h g = refl
+opened_enough zero j b (part ∷ parts) h g = absurd (no_lead part parts refl h)
+opened_enough (suc k) zero b (part ∷ parts) h g = absurd (no_lead part parts refl g)
+opened_enough (suc k) (suc j) b (part ∷ parts) h g = opened_enough k j b (predict part b ++ parts) (lead_next k b part parts refl h) (lead_next j b part parts refl g)
+
+acted_enough : {V : Type 0} (does : Action → V → V) (k j b : ℕ) (st : List Symbol) (x : V) → lead st ≤ k → lead st ≤ j → acted does k b st x ≡ acted does j b st x
+acted_enough does k j b [] x h g = refl
+acted_enough does k j b (span low more ∷ parts) x h g = refl
+acted_enough does zero j b (part ∷ parts) x h g = absurd (no_lead part parts refl h)
+acted_enough does (suc k) zero b (part ∷ parts) x h g = absurd (no_lead part parts refl g)
+acted_enough does (suc k) (suc j) b (act a ∷ parts) x h g = acted_enough does k j b parts (does a x) (lead_next k b (act a) parts refl h) (lead_next j b (act a) parts refl g)
+acted_enough does (suc k) (suc j) b (part ∷ parts) x h g = acted_enough does k j b (predict part b ++ parts) x (lead_next k b part parts refl h) (lead_next j b part parts refl g)
+
+lead_more : (n : ℕ) → n ≤ suc n
+lead_more n = omega arith
+
+opened_turn : (k b : ℕ) (part : Symbol) (parts : List Symbol) → is_span part ≡ false → opened (suc k) b (part ∷ parts) ≡ opened k b (predict part b ++ parts)
+opened_turn k b (span low more) parts h = absurd (cc)
+opened_turn k b part parts h = refl
+
+acted_turn : {V : Type 0} (does : Action → V → V) (k b : ℕ) (part : Symbol) (parts : List Symbol) (x : V) → is_span part ≡ false → is_act part ≡ false
+    → acted does (suc k) b (part ∷ parts) x ≡ acted does k b (predict part b ++ parts) x
+acted_turn does k b (span low more) parts x h g = absurd (cc)
+acted_turn does k b (act a) parts x h g = absurd (cc)
+acted_turn does k b part parts x h g = refl
+
+below : (m n : ℕ) → m < n → m ≤ n
+below m n h = omega arith
+
+-- a part on top opens into the way that the byte tells
+pub opened_next : (b : ℕ) (part : Symbol) (parts : List Symbol) → is_span part ≡ false → opened (lead (part ∷ parts)) b (part ∷ parts) ≡ opened (lead (predict part b ++ parts)) b (predict part b ++ parts)
+opened_next b part parts h =
+    let d = lead_way part parts (predict part b) h (predict_is_one part b h) in
+    opened_enough (lead (part ∷ parts)) (suc (lead (part ∷ parts))) b (part ∷ parts) (lead_refl (lead (part ∷ parts))) (lead_more (lead (part ∷ parts)))
+    ∙ (opened_turn (lead (part ∷ parts)) b part parts h
+    ∙ opened_enough (lead (part ∷ parts)) (lead (predict part b ++ parts)) b (predict part b ++ parts) (below (lead (predict part b ++ parts)) (lead (part ∷ parts)) d) (lead_refl (lead (predict part b ++ parts))))
+
+pub acted_next : {V : Type 0} (does : Action → V → V) (b : ℕ) (part : Symbol) (parts : List Symbol) (x : V) → is_span part ≡ false → is_act part ≡ false
+    → acted does (lead (part ∷ parts)) b (part ∷ parts) x ≡ acted does (lead (predict part b ++ parts)) b (predict part b ++ parts) x
+acted_next does b part parts x h g =
+    let d = lead_way part parts (predict part b) h (predict_is_one part b h) in
+    acted_enough does (lead (part ∷ parts)) (suc (lead (part ∷ parts))) b (part ∷ parts) x (lead_refl (lead (part ∷ parts))) (lead_more (lead (part ∷ parts)))
+    ∙ (acted_turn does (lead (part ∷ parts)) b part parts x h g
+    ∙ acted_enough does (lead (part ∷ parts)) (lead (predict part b ++ parts)) b (predict part b ++ parts) x (below (lead (predict part b ++ parts)) (lead (part ∷ parts)) d) (lead_refl (lead (predict part b ++ parts))))
+
+-- an action on top is done
+pub acted_action : {V : Type 0} (does : Action → V → V) (b : ℕ) (a : Action) (parts : List Symbol) (x : V)
+    → acted does (lead (act a ∷ parts)) b (act a ∷ parts) x ≡ acted does (lead parts) b parts (does a x)
+acted_action does b a parts x =
+    let d = lead_way (act a) parts [] refl first in
+    acted_enough does (lead (act a ∷ parts)) (suc (lead (act a ∷ parts))) b (act a ∷ parts) x (lead_refl (lead (act a ∷ parts))) (lead_more (lead (act a ∷ parts)))
+    ∙ acted_enough does (lead (act a ∷ parts)) (lead parts) b parts (does a x) (below (lead parts) (lead (act a ∷ parts)) d) (lead_refl (lead parts))

@@ -1,0 +1,176 @@
+//! The first fault of a tree.
+ghost use Rattle.std.specs.Prelude.{◌≡◌, ◌==◌, ◌&&◌, not};
+ghost use Rattle.sg_spec.specs.Reading.{is_polynomial as is_polynomial_in, is_divisor as is_divisor_in, is_constant as is_constant_in, call_faults, bound_faults, faults, fault_unless, exponent_fault};
+ghost use Rattle.sg_text.specs.Firsts.{first_of};
+ghost use Rattle.sg_text.specs.Drafts.{value_of, mark_spot, numeral_spot, placed_of};
+ghost use Rattle.sg_text.specs.Scopes.{names_of, found_of};
+ghost use Rattle.sg_text.specs.Limited.{limits_of};
+
+use crate::bounds::{Bounds, is_small};
+use crate::found::{Found, Kind, earlier, unless};
+use crate::node::{Head, Mark, Node, Numeral};
+use crate::scope::Scope;
+
+/// Whether it is built from numbers, the variable and the parameter without calls and divisions.
+fn is_polynomial(node: &Node, scope: Scope) -> bool
+    ensures { result ≡ is_polynomial_in (names_of scope) (placed_of node.now) }
+{
+    match node {
+        Node::Number(_) => true,
+        Node::Named(m) => scope.is_known(m.value),
+        Node::Negated(x) => is_polynomial(x, scope),
+        Node::Added(x, y) => is_polynomial(x, scope) && is_polynomial(y, scope),
+        Node::Subtracted(x, y) => is_polynomial(x, scope) && is_polynomial(y, scope),
+        Node::Multiplied(x, y) => is_polynomial(x, scope) && is_polynomial(y, scope),
+        Node::Raised(x, _) => is_polynomial(x, scope),
+        _ => false,
+    }
+}
+
+/// Whether it is a polynomial, a product, or built from such by powers, products and opposites.
+fn is_divisor(node: &Node, scope: Scope) -> bool
+    ensures { result ≡ is_divisor_in (names_of scope) (placed_of node.now) }
+{
+    match node {
+        Node::Number(_) => true,
+        Node::Named(m) => scope.is_known(m.value),
+        Node::Negated(x) => is_divisor(x, scope),
+        Node::Added(x, y) => is_polynomial(x, scope) && is_polynomial(y, scope),
+        Node::Subtracted(x, y) => is_polynomial(x, scope) && is_polynomial(y, scope),
+        Node::Multiplied(x, y) => is_divisor(x, scope) && is_divisor(y, scope),
+        Node::Raised(x, _) => is_divisor(x, scope),
+        Node::ProductCall(_, _) => true,
+        Node::Factorial(_, _) => true,
+        Node::Binomial(_, _, _, _) => true,
+        Node::ConstantPower(_, _, _) => true,
+        _ => false,
+    }
+}
+
+/// Whether it is built from numbers and names other than the variable without calls and divisions.
+fn is_constant(node: &Node, scope: Scope) -> bool
+    ensures { result ≡ is_constant_in (names_of scope) (placed_of node.now) }
+{
+    match node {
+        Node::Number(_) => true,
+        Node::Named(m) => !scope.is_variable(m.value),
+        Node::Negated(x) => is_constant(x, scope),
+        Node::Added(x, y) => is_constant(x, scope) && is_constant(y, scope),
+        Node::Subtracted(x, y) => is_constant(x, scope) && is_constant(y, scope),
+        Node::Multiplied(x, y) => is_constant(x, scope) && is_constant(y, scope),
+        Node::Raised(x, _) => is_constant(x, scope),
+        _ => false,
+    }
+}
+
+#[tactic(auto, using(crate::proofs::FirstFault::appended))]
+fn call_fault(in_product: bool, scope: Scope, call: Mark, name: Mark) -> Option<Found>
+    ensures { found_of result ≡ first_of (call_faults in_product (names_of scope) (mark_spot call) (mark_spot name)) }
+{
+    earlier(
+        unless(!in_product, Kind::Form, call.at),
+        unless(scope.is_variable(name.value), Kind::Form, name.at),
+    )
+}
+
+#[tactic(auto, using(crate::proofs::FirstFault::appended))]
+fn head_fault(bounds: &Bounds, in_product: bool, scope: Scope, head: Head) -> Option<Found>
+    ensures { found_of result ≡ first_of (bound_faults (limits_of bounds.now) in_product (names_of scope) (mark_spot head.call) (mark_spot head.bound) (mark_spot head.sign) (numeral_spot head.lower) (mark_spot head.upper)) }
+{
+    let call = unless(!in_product, Kind::Form, head.call.at);
+    let bound = unless(
+        !scope.is_parameter(head.bound.value),
+        Kind::Form,
+        head.bound.at,
+    );
+    let sign = unless(is_small(head.lower), Kind::Form, head.sign.at);
+    let lower = unless(
+        bounds.takes_numeral(head.lower),
+        Kind::Numeral,
+        head.lower.at,
+    );
+    let upper = unless(
+        scope.is_variable(head.upper.value),
+        Kind::Form,
+        head.upper.at,
+    );
+    earlier(earlier(earlier(earlier(call, bound), sign), lower), upper)
+}
+
+/// The second argument of `H` is an exponent of at least 1.
+fn order_fault(bounds: &Bounds, order: Numeral) -> Option<Found>
+    ensures { found_of result ≡ first_of (fault_unless (not (value_of order.value == 0) && (limits_of bounds.now).exponent (value_of order.value)) exponent_fault order.at) }
+{
+    let is_zero = match order.value {
+        Some(v) => v == 0,
+        None => false,
+    };
+    unless(
+        !is_zero && bounds.takes_exponent(order),
+        Kind::Exponent,
+        order.at,
+    )
+}
+
+/// The first fault of a tree, if there is one; the test tells whether it stands in the body of a product.
+#[tactic(auto, using(crate::proofs::FirstFault::appended))]
+pub fn first_fault(node: &Node, bounds: &Bounds, in_product: bool, scope: Scope) -> Option<Found>
+    ensures { found_of result ≡ first_of (faults (limits_of bounds.now) in_product (names_of scope) (placed_of node.now)) }
+{
+    match node {
+        Node::Number(n) => unless(bounds.takes_numeral(*n), Kind::Numeral, n.at),
+        Node::Named(m) => unless(scope.is_known(m.value), Kind::Unbound, m.at),
+        Node::Negated(x) => first_fault(x, bounds, in_product, scope),
+        Node::Added(x, y) => earlier(
+            first_fault(x, bounds, in_product, scope),
+            first_fault(y, bounds, in_product, scope),
+        ),
+        Node::Subtracted(x, y) => earlier(
+            first_fault(x, bounds, in_product, scope),
+            first_fault(y, bounds, in_product, scope),
+        ),
+        Node::Multiplied(x, y) => earlier(
+            first_fault(x, bounds, in_product, scope),
+            first_fault(y, bounds, in_product, scope),
+        ),
+        Node::Divided(x, place, y) => {
+            let left = first_fault(x, bounds, in_product, scope);
+            let divisor = unless(is_divisor(y, scope), Kind::Form, place.at);
+            let right = first_fault(y, bounds, in_product, scope);
+            earlier(earlier(left, divisor), right)
+        }
+        Node::Raised(x, n) => {
+            let base = first_fault(x, bounds, in_product, scope);
+            earlier(
+                base,
+                unless(bounds.takes_exponent(*n), Kind::Exponent, n.at),
+            )
+        }
+        Node::SumCall(head, body) => {
+            let outer = head_fault(bounds, in_product, scope, *head);
+            let inner = first_fault(body, bounds, in_product, scope.inside(head.bound.value));
+            earlier(outer, inner)
+        }
+        Node::ProductCall(head, body) => {
+            let outer = head_fault(bounds, in_product, scope, *head);
+            let inner = first_fault(body, bounds, true, scope.inside(head.bound.value));
+            earlier(outer, inner)
+        }
+        Node::Harmonic(call, name) => call_fault(in_product, scope, *call, *name),
+        Node::HarmonicOfOrder(call, name, order) => {
+            let outer = call_fault(in_product, scope, *call, *name);
+            earlier(outer, order_fault(bounds, *order))
+        }
+        Node::Factorial(call, name) => call_fault(in_product, scope, *call, *name),
+        Node::Binomial(call, place, x, name) => {
+            let outer = call_fault(in_product, scope, *call, *name);
+            let form = unless(is_constant(x, scope), Kind::Form, place.at);
+            let inner = first_fault(x, bounds, in_product, scope);
+            earlier(earlier(outer, form), inner)
+        }
+        Node::ConstantPower(call, x, name) => {
+            let outer = call_fault(in_product, scope, *call, *name);
+            earlier(outer, first_fault(x, bounds, in_product, scope))
+        }
+    }
+}

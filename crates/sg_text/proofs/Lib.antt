@@ -23,3 +23,4 @@ pub mod PrintBounds
 pub mod PrintCosts
 pub mod PrintForms
 pub mod PrintFewest
+pub mod PrintBlanks

@@ -11,8 +11,8 @@
 use Rattle.std.specs.Prelude.{◌≡◌, ◌==◌, ℕ, ◌+◌, ◌-◌, ◌≤◌, Bool, true, false, cond, ◌&&◌, List, [], ◌∷◌, ◌++◌, codes}
 use Rattle.std.proofs.Common.{refl, sym, subst, arith}
 use Rattle.std.proofs.lemmas.Bool.Decides.{nat_tests}
-use Rattle.sg_spec.specs.Grammar.{Action, mark, letter, minus_sign, begin_number, digit, use_number, use_name, negate, add_up, subtract, multiply, divide, raise, make_sum, make_product, make_harmonic, make_harmonic_of_order, make_factorial, make_binomial, make_power, Symbol, span, act, blanks, text, expr, more_terms, term, more_factors, factor, exponent, atom, worded, variable, call, bounds_and_body, name_and_order, one_name, expr_and_name, const_and_name, order, int, const, divisor, name, digits, more_digits, after_s, after_p, after_f, after_b, token, rules, IsOneOf, first, later, is_act, Builds, none_left, eats, acts, opens_by}
-use Rattle.sg_spec.specs.Syntax.{Spot, Placed, number, named, negated, added, subtracted, multiplied, divided, raised, sum_call, product_call, harmonic, harmonic_of_order, factorial, binomial, constant_power, State, at_start, after_byte, after_action, top_spot, second, third, fourth, top_tree, rest}
+use Rattle.sg_spec.specs.Grammar.{Action, mark, letter, minus_sign, digit, use_number, negate, add_up, subtract, multiply, divide, raise, make_sum, make_product, make_harmonic_of_order, make_factorial, make_binomial, make_power, Symbol, span, act, blanks, text, expr, more_terms, term, more_factors, factor, exponent, atom, worded, variable, call, bounds_and_body, name_and_order, one_name, expr_and_name, const_and_name, order, int, const, divisor, name, digits, more_digits, after_s, after_p, after_f, after_b, token, rules, IsOneOf, first, later, is_act, Builds, none_left, eats, acts, opens_by}
+use Rattle.sg_spec.specs.Syntax.{Spot, Placed, number, named, negated, added, subtracted, multiplied, divided, raised, sum_call, product_call, harmonic, harmonic_of_order, factorial, binomial, constant_power, State, after_byte, after_action, top_spot, second, third, fourth, top_tree, rest}
 use Rattle.sg_spec.specs.Reading.{HasTree}
 use Rattle.sg_text.specs.declared.printing.Level.{Level}
 use Rattle.sg_text.specs.declared.printing.Level.TheVariants.{Sum, Term, Factor, Atom}
@@ -152,46 +152,57 @@ module _ (m : Model) where
   each_expr ps f (g, t, c) =
       let sum : Estimate = λ ts. m.at Sum (top_tree ts) + f (rest ts) in
       let term_first : Estimate = λ ts. m.at Term (top_tree ts) + f (rest ts) in
-      let more : Typed (more_terms ∷ ps) sum = (g, t, (f, c, same sum)) in
-      (over_token (codes "-") (term ∷ (act negate ∷ (more_terms ∷ []))) ps f refl
-       (term_first, (sum, more, λ x. (let h = m.of_negated (top_tree x.trees) in omega arith)), same term_first),
-       ((sum, more, λ ts. (let h = m.as_term (top_tree ts) in omega arith)), tt))
+      let more : Typed (more_terms ∷ ps) sum = (g, t, (f, c, same sum)) in (
+        over_token (codes "-") (term ∷ (act negate ∷ (more_terms ∷ []))) ps f refl
+            (term_first, (sum, more, λ x. (let h = m.of_negated (top_tree x.trees) in omega arith)), same term_first),
+        ((sum, more, λ ts. (let h = m.as_term (top_tree ts) in omega arith)), tt),
+      )
 
   each_more_terms : (ps : List Symbol) (f : Estimate) → Typed (more_terms ∷ ps) f → Each (rules more_terms) (λ way. Typed (way ++ ps) f)
   each_more_terms ps f (g, t, (b, up, low)) =
       let sum : Estimate = λ ts. m.at Sum (top_tree ts) + b (rest ts) in
       let two : Estimate = λ ts. m.at Term (top_tree ts) + sum (rest ts) in
-      let more : Typed (more_terms ∷ ps) sum = (g, t, (b, up, same sum)) in
-      (over_token (codes "+") (term ∷ (act add_up ∷ (more_terms ∷ []))) ps f refl
-       (two, (sum, more, λ x. (let h = m.of_added (top_tree (rest x.trees)) (top_tree x.trees) in omega arith)), λ ts. (let h = low (rest ts) in omega arith)),
-       (over_token (codes "-") (term ∷ (act subtract ∷ (more_terms ∷ []))) ps f refl
-        (two, (sum, more, λ x. (let h = m.of_subtracted (top_tree (rest x.trees)) (top_tree x.trees) in omega arith)), λ ts. (let h = low (rest ts) in omega arith)),
-        (weaker ps g f (λ ts. (let h = up ts in let k = low ts in omega arith)) t, tt)))
+      let more : Typed (more_terms ∷ ps) sum = (g, t, (b, up, same sum)) in (
+        over_token (codes "+") (term ∷ (act add_up ∷ (more_terms ∷ []))) ps f refl
+            (two, (sum, more, λ x. (let h = m.of_added (top_tree (rest x.trees)) (top_tree x.trees) in omega arith)), λ ts. (let h = low (rest ts) in omega arith)),
+        (
+          over_token (codes "-") (term ∷ (act subtract ∷ (more_terms ∷ []))) ps f refl
+              (two, (sum, more, λ x. (let h = m.of_subtracted (top_tree (rest x.trees)) (top_tree x.trees) in omega arith)), λ ts. (let h = low (rest ts) in omega arith)),
+          (weaker ps g f (λ ts. (let h = up ts in let k = low ts in omega arith)) t, tt),
+        ),
+      )
 
   each_more_factors : (ps : List Symbol) (f : Estimate) → Typed (more_factors ∷ ps) f → Each (rules more_factors) (λ way. Typed (way ++ ps) f)
   each_more_factors ps f (g, t, (b, up, low)) =
       let product : Estimate = λ ts. m.at Term (top_tree ts) + b (rest ts) in
       let two : Estimate = λ ts. m.at Factor (top_tree ts) + product (rest ts) in
-      let more : Typed (more_factors ∷ ps) product = (g, t, (b, up, same product)) in
-      (over_token (codes "*") (factor ∷ (act multiply ∷ (more_factors ∷ []))) ps f refl
-       (two, (product, more, λ x. (let h = m.of_multiplied (top_tree (rest x.trees)) (top_tree x.trees) in omega arith)), λ ts. (let h = low (rest ts) in omega arith)),
-       (over_token (codes "/") (act mark ∷ (factor ∷ (act divide ∷ (more_factors ∷ [])))) ps f refl
-        (f, (two, (product, more, λ x. (let h = m.of_divided (top_tree (rest x.trees)) (top_spot x.marks) (top_tree x.trees) in omega arith)), λ ts. (let h = low (rest ts) in omega arith)), λ x. same f x.trees),
-        (weaker ps g f (λ ts. (let h = up ts in let k = low ts in omega arith)) t, tt)))
+      let more : Typed (more_factors ∷ ps) product = (g, t, (b, up, same product)) in (
+        over_token (codes "*") (factor ∷ (act multiply ∷ (more_factors ∷ []))) ps f refl
+            (two, (product, more, λ x. (let h = m.of_multiplied (top_tree (rest x.trees)) (top_tree x.trees) in omega arith)), λ ts. (let h = low (rest ts) in omega arith)),
+        (
+          over_token (codes "/") (act mark ∷ (factor ∷ (act divide ∷ (more_factors ∷ [])))) ps f refl
+              (f, (two, (product, more, λ x. (let h = m.of_divided (top_tree (rest x.trees)) (top_spot x.marks) (top_tree x.trees) in omega arith)), λ ts. (let h = low (rest ts) in omega arith)), λ x. same f x.trees),
+          (weaker ps g f (λ ts. (let h = up ts in let k = low ts in omega arith)) t, tt),
+        ),
+      )
 
   each_exponent : (ps : List Symbol) (f : Estimate) → Typed (exponent ∷ ps) f → Each (rules exponent) (λ way. Typed (way ++ ps) f)
-  each_exponent ps f (g, t, (b, up, low)) =
-      (over_token (codes "^") (digits ∷ (act raise ∷ [])) ps f refl
-       (over digits (act raise ∷ ps) f refl
-       (g, t, λ x. (let h = m.of_raised (top_tree x.trees) (top_spot x.numbers) in let k = up (raised (top_tree x.trees) (top_spot x.numbers) ∷ rest x.trees) in let q = low x.trees in omega arith))),
-       (weaker ps g f (λ ts. (let h = up ts in let k = low ts in let q = m.as_atom (top_tree ts) in omega arith)) t, tt))
+  each_exponent ps f (g, t, (b, up, low)) = (
+    over_token (codes "^") (digits ∷ (act raise ∷ [])) ps f refl
+        (over digits (act raise ∷ ps) f refl
+        (g, t, λ x. (let h = m.of_raised (top_tree x.trees) (top_spot x.numbers) in let k = up (raised (top_tree x.trees) (top_spot x.numbers) ∷ rest x.trees) in let q = low x.trees in omega arith))),
+    (weaker ps g f (λ ts. (let h = up ts in let k = low ts in let q = m.as_atom (top_tree ts) in omega arith)) t, tt),
+  )
 
   each_atom : (ps : List Symbol) (f : Estimate) → Typed (atom ∷ ps) f → Each (rules atom) (λ way. Typed (way ++ ps) f)
-  each_atom ps f (g, t, c) =
-      (over digits (act use_number ∷ ps) f refl (g, t, λ x. (let h = m.of_number (top_spot x.numbers) in let k = c (number (top_spot x.numbers) ∷ x.trees) in omega arith)),
-       (over_token (codes "(") (expr ∷ token (codes ")") []) ps f refl
-        (λ ts. g ts - m.pay, close ps g t, λ ts. (let h = m.enclosed (top_tree ts) in let k = c ts in omega arith)),
-        ((f, (g, t, c), λ x. same f x.trees), tt)))
+  each_atom ps f (g, t, c) = (
+    over digits (act use_number ∷ ps) f refl (g, t, λ x. (let h = m.of_number (top_spot x.numbers) in let k = c (number (top_spot x.numbers) ∷ x.trees) in omega arith)),
+    (
+      over_token (codes "(") (expr ∷ token (codes ")") []) ps f refl
+          (λ ts. g ts - m.pay, close ps g t, λ ts. (let h = m.enclosed (top_tree ts) in let k = c ts in omega arith)),
+      ((f, (g, t, c), λ x. same f x.trees), tt),
+    ),
+  )
 
   each_variable : (ps : List Symbol) (f : Estimate) → Typed (variable ∷ ps) f → Each (rules variable) (λ way. Typed (way ++ ps) f)
   each_variable ps f (g, t, c) =
@@ -201,92 +212,162 @@ module _ (m : Model) where
   each_call ps f (g, t, c) =
       let body : Estimate = λ ts. m.at Sum (top_tree ts) + m.pay + f (rest ts) in
       let base : Estimate = λ ts. m.at_const (top_tree ts) + m.pay + f (rest ts) in
-      let closed : Estimate = λ ts. f ts + m.pay in
-      (over_token (codes "sum") (bounds_and_body ∷ (act make_sum ∷ [])) ps f refl
-       (body, (g, t, λ x. (let s = sum_call (fourth x.marks) (third x.marks) (second x.marks) (top_spot x.numbers) (top_spot x.marks) (top_tree x.trees) in
-        let h = m.of_sum (fourth x.marks) (third x.marks) (second x.marks) (top_spot x.numbers) (top_spot x.marks) (top_tree x.trees) in let k = c (s ∷ rest x.trees) in omega arith)), same body),
-      (over_token (codes "prod") (bounds_and_body ∷ (act make_product ∷ [])) ps f refl
-       (body, (g, t, λ x. (let s = product_call (fourth x.marks) (third x.marks) (second x.marks) (top_spot x.numbers) (top_spot x.marks) (top_tree x.trees) in
-        let h = m.of_product (fourth x.marks) (third x.marks) (second x.marks) (top_spot x.numbers) (top_spot x.marks) (top_tree x.trees) in let k = c (s ∷ rest x.trees) in omega arith)), same body),
-      (over_token (codes "H") (name_and_order ∷ []) ps f refl (g, t, c),
-      (over_token (codes "fact") (one_name ∷ (act make_factorial ∷ [])) ps f refl
-       (closed, (g, t, λ x. (let h = m.of_factorial (second x.marks) (top_spot x.marks) in let k = c (factorial (second x.marks) (top_spot x.marks) ∷ x.trees) in omega arith)), same closed),
-      (over_token (codes "binom") (expr_and_name ∷ (act make_binomial ∷ [])) ps f refl
-       (body, (g, t, λ x. (let s = binomial (third x.marks) (second x.marks) (top_tree x.trees) (top_spot x.marks) in
-        let h = m.of_binomial (third x.marks) (second x.marks) (top_tree x.trees) (top_spot x.marks) in let k = c (s ∷ rest x.trees) in omega arith)), same body),
-      (over_token (codes "pow") (const_and_name ∷ (act make_power ∷ [])) ps f refl
-       (base, (g, t, λ x. (let s = constant_power (second x.marks) (top_tree x.trees) (top_spot x.marks) in
-        let h = m.of_power (second x.marks) (top_tree x.trees) (top_spot x.marks) in let k = c (s ∷ rest x.trees) in omega arith)), same base),
-      tt))))))
+      let closed : Estimate = λ ts. f ts + m.pay in (
+        over_token (codes "sum") (bounds_and_body ∷ (act make_sum ∷ [])) ps f refl (
+          body,
+          (
+            g,
+            t,
+            λ x. (let s = sum_call (fourth x.marks) (third x.marks) (second x.marks) (top_spot x.numbers) (top_spot x.marks) (top_tree x.trees) in
+                let h = m.of_sum (fourth x.marks) (third x.marks) (second x.marks) (top_spot x.numbers) (top_spot x.marks) (top_tree x.trees) in let k = c (s ∷ rest x.trees) in omega arith),
+          ),
+          same body,
+        ),
+        (
+          over_token (codes "prod") (bounds_and_body ∷ (act make_product ∷ [])) ps f refl (
+            body,
+            (
+              g,
+              t,
+              λ x. (let s = product_call (fourth x.marks) (third x.marks) (second x.marks) (top_spot x.numbers) (top_spot x.marks) (top_tree x.trees) in
+                  let h = m.of_product (fourth x.marks) (third x.marks) (second x.marks) (top_spot x.numbers) (top_spot x.marks) (top_tree x.trees) in let k = c (s ∷ rest x.trees) in omega arith),
+            ),
+            same body,
+          ),
+          (
+            over_token (codes "H") (name_and_order ∷ []) ps f refl (g, t, c),
+            (
+              over_token (codes "fact") (one_name ∷ (act make_factorial ∷ [])) ps f refl
+                  (closed, (g, t, λ x. (let h = m.of_factorial (second x.marks) (top_spot x.marks) in let k = c (factorial (second x.marks) (top_spot x.marks) ∷ x.trees) in omega arith)), same closed),
+              (
+                over_token (codes "binom") (expr_and_name ∷ (act make_binomial ∷ [])) ps f refl (
+                  body,
+                  (
+                    g,
+                    t,
+                    λ x. (let s = binomial (third x.marks) (second x.marks) (top_tree x.trees) (top_spot x.marks) in
+                        let h = m.of_binomial (third x.marks) (second x.marks) (top_tree x.trees) (top_spot x.marks) in let k = c (s ∷ rest x.trees) in omega arith),
+                  ),
+                  same body,
+                ),
+                (
+                  over_token (codes "pow") (const_and_name ∷ (act make_power ∷ [])) ps f refl (
+                    base,
+                    (
+                      g,
+                      t,
+                      λ x. (let s = constant_power (second x.marks) (top_tree x.trees) (top_spot x.marks) in
+                          let h = m.of_power (second x.marks) (top_tree x.trees) (top_spot x.marks) in let k = c (s ∷ rest x.trees) in omega arith),
+                    ),
+                    same base,
+                  ),
+                  tt,
+                ),
+              ),
+            ),
+          ),
+        ),
+      )
 
   each_bounds_and_body : (ps : List Symbol) (f : Estimate) → Typed (bounds_and_body ∷ ps) f → Each (rules bounds_and_body) (λ way. Typed (way ++ ps) f)
   each_bounds_and_body ps f (g, t, c) =
       let last : List Symbol = token (codes ")") [] in
       let upper : List Symbol = name ∷ token (codes ",") (expr ∷ last) in
-      let limit : List Symbol = act mark ∷ (int ∷ token (codes ",") upper) in
-      (over_token (codes "(") (name ∷ token (codes ",") limit) ps f refl
-       (over name (token (codes ",") limit ++ ps) f refl
-       (over_token (codes ",") limit ps f refl
-       (f, over int (token (codes ",") upper ++ ps) f refl
-       (over_token (codes ",") upper ps f refl
-       (over name (token (codes ",") (expr ∷ last) ++ ps) f refl
-       (over_token (codes ",") (expr ∷ last) ps f refl
-       (λ ts. g ts - m.pay, close ps g t, λ ts. (let k = c ts in omega arith))))), λ x. same f x.trees))), tt)
+      let limit : List Symbol = act mark ∷ (int ∷ token (codes ",") upper) in (
+        over_token (codes "(") (name ∷ token (codes ",") limit) ps f refl
+            (over name (token (codes ",") limit ++ ps) f refl
+            (over_token (codes ",") limit ps f refl (
+              f,
+              over int (token (codes ",") upper ++ ps) f refl
+                  (over_token (codes ",") upper ps f refl
+                  (over name (token (codes ",") (expr ∷ last) ++ ps) f refl
+                  (over_token (codes ",") (expr ∷ last) ps f refl
+                  (λ ts. g ts - m.pay, close ps g t, λ ts. (let k = c ts in omega arith))))),
+              λ x. same f x.trees,
+            ))),
+        tt,
+      )
 
   each_name_and_order : (ps : List Symbol) (f : Estimate) → Typed (name_and_order ∷ ps) f → Each (rules name_and_order) (λ way. Typed (way ++ ps) f)
-  each_name_and_order ps f (g, t, c) =
-      (over_token (codes "(") (name ∷ (order ∷ token (codes ")") [])) ps f refl
-       (over name (order ∷ (token (codes ")") [] ++ ps)) f refl
-       (λ ts. g ts - m.pay, close ps g t, λ ts. (let k = c ts in omega arith))), tt)
+  each_name_and_order ps f (g, t, c) = (
+    over_token (codes "(") (name ∷ (order ∷ token (codes ")") [])) ps f refl
+        (over name (order ∷ (token (codes ")") [] ++ ps)) f refl
+        (λ ts. g ts - m.pay, close ps g t, λ ts. (let k = c ts in omega arith))),
+    tt,
+  )
 
   each_one_name : (ps : List Symbol) (f : Estimate) → Typed (one_name ∷ ps) f → Each (rules one_name) (λ way. Typed (way ++ ps) f)
-  each_one_name ps f (g, t, c) =
-      (over_token (codes "(") (name ∷ token (codes ")") []) ps f refl
-       (over name (token (codes ")") [] ++ ps) f refl
-       (weaker (token (codes ")") [] ++ ps) (λ ts. g ts - m.pay) f (λ ts. (let k = c ts in omega arith)) (close ps g t))), tt)
+  each_one_name ps f (g, t, c) = (
+    over_token (codes "(") (name ∷ token (codes ")") []) ps f refl
+        (over name (token (codes ")") [] ++ ps) f refl
+        (weaker (token (codes ")") [] ++ ps) (λ ts. g ts - m.pay) f (λ ts. (let k = c ts in omega arith)) (close ps g t))),
+    tt,
+  )
 
   each_expr_and_name : (ps : List Symbol) (f : Estimate) → Typed (expr_and_name ∷ ps) f → Each (rules expr_and_name) (λ way. Typed (way ++ ps) f)
   each_expr_and_name ps f (g, t, c) =
       let last : List Symbol = name ∷ token (codes ")") [] in
-      let less : Estimate = λ ts. g ts - m.pay in
-      (over_token (codes "(") (act mark ∷ (expr ∷ token (codes ",") last)) ps f refl
-       (f, (less, over_token (codes ",") last ps less refl (over name (token (codes ")") [] ++ ps) less refl (close ps g t)), λ ts. (let k = c ts in omega arith)), λ x. same f x.trees), tt)
+      let less : Estimate = λ ts. g ts - m.pay in (
+        over_token (codes "(") (act mark ∷ (expr ∷ token (codes ",") last)) ps f refl
+            (f, (less, over_token (codes ",") last ps less refl (over name (token (codes ")") [] ++ ps) less refl (close ps g t)), λ ts. (let k = c ts in omega arith)), λ x. same f x.trees),
+        tt,
+      )
 
   each_const_and_name : (ps : List Symbol) (f : Estimate) → Typed (const_and_name ∷ ps) f → Each (rules const_and_name) (λ way. Typed (way ++ ps) f)
   each_const_and_name ps f (g, t, c) =
       let last : List Symbol = name ∷ token (codes ")") [] in
-      let less : Estimate = λ ts. g ts - m.pay in
-      (over_token (codes "(") (const ∷ token (codes ",") last) ps f refl
-       (less, over_token (codes ",") last ps less refl (over name (token (codes ")") [] ++ ps) less refl (close ps g t)), λ ts. (let k = c ts in omega arith)), tt)
+      let less : Estimate = λ ts. g ts - m.pay in (
+        over_token (codes "(") (const ∷ token (codes ",") last) ps f refl
+            (less, over_token (codes ",") last ps less refl (over name (token (codes ")") [] ++ ps) less refl (close ps g t)), λ ts. (let k = c ts in omega arith)),
+        tt,
+      )
 
   each_order : (ps : List Symbol) (f : Estimate) → Typed (order ∷ ps) f → Each (rules order) (λ way. Typed (way ++ ps) f)
-  each_order ps f (g, t, c) =
-      (over_token (codes ",") (digits ∷ (act make_harmonic_of_order ∷ [])) ps f refl
-       (over digits (act make_harmonic_of_order ∷ ps) f refl
-       (g, t, λ x. (let h = m.of_harmonic_of_order (second x.marks) (top_spot x.marks) (top_spot x.numbers) in
-        let k = c (harmonic_of_order (second x.marks) (top_spot x.marks) (top_spot x.numbers) ∷ x.trees) in omega arith))),
-       ((g, t, λ x. (let h = m.of_harmonic (second x.marks) (top_spot x.marks) in let k = c (harmonic (second x.marks) (top_spot x.marks) ∷ x.trees) in omega arith)), tt))
+  each_order ps f (g, t, c) = (
+    over_token (codes ",") (digits ∷ (act make_harmonic_of_order ∷ [])) ps f refl
+        (over digits (act make_harmonic_of_order ∷ ps) f refl (
+          g,
+          t,
+          λ x. (let h = m.of_harmonic_of_order (second x.marks) (top_spot x.marks) (top_spot x.numbers) in
+              let k = c (harmonic_of_order (second x.marks) (top_spot x.marks) (top_spot x.numbers) ∷ x.trees) in omega arith),
+        )),
+    ((g, t, λ x. (let h = m.of_harmonic (second x.marks) (top_spot x.marks) in let k = c (harmonic (second x.marks) (top_spot x.marks) ∷ x.trees) in omega arith)), tt),
+  )
 
   each_const : (ps : List Symbol) (f : Estimate) → Typed (const ∷ ps) f → Each (rules const) (λ way. Typed (way ++ ps) f)
   each_const ps f (g, t, c) =
       let quotient : Estimate = λ ts. m.at_quotient (top_tree ts) + f (rest ts) in
       let one : Estimate = λ ts. m.at_number (top_tree ts) + f (rest ts) in
-      let opposite : Typed (act negate ∷ ps) quotient = (g, t, λ x. (let h = m.of_opposite (top_tree x.trees) in let k = c (negated (top_tree x.trees) ∷ rest x.trees) in omega arith)) in
-      (over_token (codes "-") (digits ∷ (act use_number ∷ (divisor ∷ (act negate ∷ [])))) ps f refl
-       (over digits (act use_number ∷ (divisor ∷ (act negate ∷ ps))) f refl
-       (one, (quotient, opposite, (f, same quotient, same one)), λ x. (let h = m.of_one (top_spot x.numbers) in omega arith))),
-       (over digits (act use_number ∷ (divisor ∷ ps)) f refl
-       (one, (g, t, (f, λ ts. (let k = c ts in let h = m.as_const (top_tree ts) in omega arith), same one)), λ x. (let h = m.of_one (top_spot x.numbers) in omega arith)), tt))
+      let opposite : Typed (act negate ∷ ps) quotient = (g, t, λ x. (let h = m.of_opposite (top_tree x.trees) in let k = c (negated (top_tree x.trees) ∷ rest x.trees) in omega arith)) in (
+        over_token (codes "-") (digits ∷ (act use_number ∷ (divisor ∷ (act negate ∷ [])))) ps f refl
+            (over digits (act use_number ∷ (divisor ∷ (act negate ∷ ps))) f refl
+            (one, (quotient, opposite, (f, same quotient, same one)), λ x. (let h = m.of_one (top_spot x.numbers) in omega arith))),
+        (
+          over digits (act use_number ∷ (divisor ∷ ps)) f refl
+              (one, (g, t, (f, λ ts. (let k = c ts in let h = m.as_const (top_tree ts) in omega arith), same one)), λ x. (let h = m.of_one (top_spot x.numbers) in omega arith)),
+          tt,
+        ),
+      )
 
   each_divisor : (ps : List Symbol) (f : Estimate) → Typed (divisor ∷ ps) f → Each (rules divisor) (λ way. Typed (way ++ ps) f)
   each_divisor ps f (g, t, (b, up, low)) =
-      let two : Estimate = λ ts. m.at_number (top_tree ts) + (m.at_number (top_tree (rest ts)) + b (rest (rest ts))) in
-      (over_token (codes "/") (act mark ∷ (digits ∷ (act use_number ∷ (act divide ∷ [])))) ps f refl
-       (f, over digits (act use_number ∷ (act divide ∷ ps)) f refl
-       (two, (g, t, λ x. (let s = divided (top_tree (rest x.trees)) (top_spot x.marks) (top_tree x.trees) in
-        let h = m.of_quotient (top_tree (rest x.trees)) (top_spot x.marks) (top_tree x.trees) in let k = up (s ∷ rest (rest x.trees)) in omega arith)),
-        λ x. (let h = m.of_one (top_spot x.numbers) in let k = low x.trees in omega arith)), λ x. same f x.trees),
-       (weaker ps g f (λ ts. (let h = up ts in let k = low ts in let q = m.as_quotient (top_tree ts) in omega arith)) t, tt))
+      let two : Estimate = λ ts. m.at_number (top_tree ts) + (m.at_number (top_tree (rest ts)) + b (rest (rest ts))) in (
+        over_token (codes "/") (act mark ∷ (digits ∷ (act use_number ∷ (act divide ∷ [])))) ps f refl (
+          f,
+          over digits (act use_number ∷ (act divide ∷ ps)) f refl (
+            two,
+            (
+              g,
+              t,
+              λ x. (let s = divided (top_tree (rest x.trees)) (top_spot x.marks) (top_tree x.trees) in
+                  let h = m.of_quotient (top_tree (rest x.trees)) (top_spot x.marks) (top_tree x.trees) in let k = up (s ∷ rest (rest x.trees)) in omega arith),
+            ),
+            λ x. (let h = m.of_one (top_spot x.numbers) in let k = low x.trees in omega arith),
+          ),
+          λ x. same f x.trees,
+        ),
+        (weaker ps g f (λ ts. (let h = up ts in let k = low ts in let q = m.as_quotient (top_tree ts) in omega arith)) t, tt),
+      )
 
   -- parts that make no tree
   each_name : (ps : List Symbol) (f : Estimate) → Typed ps f → Each (rules name) (λ way. Typed (way ++ ps) f)

@@ -3,28 +3,28 @@
 --   sum-closed, ..      a call needs one pair more than its body, at most
 --   fewer               a tree needs no more of them as it is printed than in any way to write it
 --   printed-fewest      so the printed text has the fewest
-use Rattle.std.specs.Prelude.{◌≡◌, ◌≢◌, ◌==◌, ℕ, zero, suc, ◌+◌, ◌≤◌, ◌<◌, ◌^◌, nat_lt, ℤ, pos, negsuc, unsigned_abs, Bool, true, false, not, cond, ◌&&◌, ◌⊎◌, List, [], ◌∷◌, ◌++◌, get_or, codes}
+use Rattle.std.specs.Prelude.{◌≡◌, ◌≢◌, ◌==◌, ℕ, zero, suc, ◌+◌, ◌≤◌, ◌<◌, ◌^◌, ℤ, pos, negsuc, unsigned_abs, Bool, true, false, cond, ◌&&◌, List, [], ◌∷◌, ◌++◌, get_or}
 use Rattle.std.proofs.Common.{refl, sym, subst, ap, ◌∙◌, arith, inl, inr}
 use Rattle.std.proofs.lemmas.Bool.Decides.{nat_tests}
 use Rattle.std.specs.Fmt.{decimal}
 use Rattle.std.proofs.lemmas.Fmt.{decimal_is_IsNumeral_wide}
-use Rattle.std.specs.Char.{digit_value}
 use Rattle.std.specs.Str.Parse.{AllDigits, IsNumeral}
 use Rattle.std.proofs.lemmas.Str.Parse.{digit_from_value}
-use Rattle.sg_spec.specs.Tree.{Tree, numeral, here, param, add, neg, mul, div, power, sum_from, prod_from}
-use Rattle.sg_spec.specs.Syntax.{Spot, Placed, number, named, negated, added, subtracted, multiplied, divided, raised, sum_call, product_call, harmonic, harmonic_of_order, factorial, binomial, constant_power}
-use Rattle.sg_spec.specs.Reading.{is_variable, inside, signed, tree_in, is_divisor, is_constant, is_small, form, exponent_fault, unlimited, fault_unless, bound_faults, call_faults, Fault, faults, Reads}
-use Rattle.sg_spec.specs.Printing.{IsLetter, AreNames, SparesBound, is_constant_tree, IsShort, closed_in, HasFewest}
+use Rattle.sg_spec.specs.Tree.{Tree, numeral, here, param, add, neg, div, power}
+use Rattle.sg_spec.specs.Syntax.{Placed, number, named, negated, added, subtracted, multiplied, divided, raised, sum_call, product_call, harmonic, harmonic_of_order, factorial, binomial, constant_power}
+use Rattle.sg_spec.specs.Reading.{is_variable, inside, signed, tree_in, is_divisor, is_constant, form, unlimited, fault_unless, bound_faults, call_faults, Fault, faults}
+use Rattle.sg_spec.specs.Printing.{is_constant_tree, IsShort, closed_in, HasFewest}
+use Rattle.sg_text.specs.Reads.{IsLetter, IsFree}
 use Rattle.sg_text.specs.declared.printing.ProductForm.{ProductForm}
 use Rattle.sg_text.specs.declared.printing.ProductForm.TheVariants.{Full, Factorial, Binomial, Power}
 use Rattle.sg_text.specs.declared.printing.Level.{Level}
 use Rattle.sg_text.specs.declared.printing.Level.TheVariants.{Sum, Term, Factor, Atom}
-use Rattle.sg_text.specs.PrintedText.{spot_of, next_bound, sign_of, is_first, is_here, is_one, is_minus_here, is_falling, harmonic_order, body_form, product_form, written_sum, written_product, left_of, written, level_of, is_below, enclosed_if, at_level, limit_text, call_text, text_at, added_text, plain, printed}
-use Rattle.sg_text.proofs.PrintSteps.{plain_added, written_left, left_true, right_true}
+use Rattle.sg_text.specs.PrintedText.{spot_of, next_bound, sign_of, is_first, harmonic_order, body_form, product_form, written_sum, written_product, left_of, written, level_of, is_below, enclosed_if, at_level, limit_text, call_text, text_at, added_text, plain, printed}
+use Rattle.sg_text.proofs.PrintSteps.{plain_added}
 use Rattle.sg_text.proofs.PrintBounds.{left_empty, right_empty}
-use Rattle.sg_text.proofs.PrintReads.{IsBound, letter-bound, bound-next, small_limit, is-harmonic, split_form, falls, not_binomial, is-binomial}
+use Rattle.sg_text.proofs.PrintReads.{IsBound, bound-next, small_limit, is-harmonic, split_form, not_binomial, is-binomial}
 use Rattle.sg_text.proofs.PrintCosts.{paid}
-use Rattle.sg_text.proofs.PrintForms.{parens, cost_at, cost-least, constant-tree, holds_if, bound_small, parens_paid}
+use Rattle.sg_text.proofs.PrintForms.{parens, cost_at, constant-tree, holds_if, bound_small, parens_paid}
 
 pub closed-append : (v w : List ℕ) → closed_in (v ++ w) ≡ closed_in v + closed_in w
 closed-append [] w = omega arith
@@ -290,13 +290,13 @@ paid-closed (b ∷ w) = ap (λ q. cond (b == 41) (q + 1) q) (paid-closed w)
 letter-open : (c : ℕ) → IsLetter c → IsOpen c
 letter-open c h = let k : 97 ≤ c = h.0 in λ q. absurd (omega arith)
 
-open_names : (names : List ℕ) → AreNames names → IsOpen (get_or names 0 0) × IsOpen (get_or names 1 0)
+open_names : (names : List ℕ) → IsFree names → IsOpen (get_or names 0 0) × IsOpen (get_or names 1 0)
 open_names [] h = absurd h
 open_names (v ∷ []) h = (letter-open v h, λ q. absurd (omega arith))
 open_names (v ∷ (p ∷ [])) h = (letter-open v h.0, letter-open p h.1)
 open_names (v ∷ (p ∷ (q ∷ more))) h = absurd h
 
-pub printed-fewest : (names : List ℕ) (e : Tree) → AreNames names → IsShort e → HasFewest (printed names e) names e
+pub printed-fewest : (names : List ℕ) (e : Tree) → IsFree names → IsShort e → HasFewest (printed names e) names e
 printed-fewest names e h short u r =
     let (hv, hp) = open_names names h in
     let k = fewer r.placed names false (get_or names 0 0) (get_or names 1 0) 106 r.no_fault hv hp (inl refl) (subst IsShort (sym r.meaning) short) in

@@ -5,13 +5,12 @@
 --   Bad         a text pays nothing, and holds none
 --   in_form     a placed tree without fault is in reader's form
 --   form_of     a tree that some text reads as is
-use Rattle.std.specs.Prelude.{◌≡◌, ◌==◌, ℕ, zero, suc, ◌+◌, ◌≤◌, ◌<◌, ℤ, pos, negsuc, neg_ℤ, ◌≤ℤ◌, unsigned_abs, Bool, true, false, not, cond, ◌&&◌, ◌||◌, List, [], ◌∷◌, ◌++◌}
-use Rattle.std.proofs.Common.{refl, sym, subst, ap, ◌∙◌, arith}
-use Rattle.std.proofs.lemmas.Bool.Decides.{nat_tests}
+use Rattle.std.specs.Prelude.{◌≡◌, ◌==◌, ℕ, zero, suc, ◌+◌, ◌≤◌, pos, ◌≤ℤ◌, unsigned_abs, Bool, true, false, not, cond, ◌&&◌, ◌||◌, List, [], ◌∷◌, ◌++◌}
+use Rattle.std.proofs.Common.{refl, subst, ap, ◌∙◌, arith}
 use Rattle.std.proofs.lemmas.Int.{ints}
-use Rattle.sg_spec.specs.Tree.{Tree, numeral, here, param, add, neg, mul, div, power, sum_from, prod_from}
+use Rattle.sg_spec.specs.Tree.{Tree, numeral, here, param, div, power}
 use Rattle.sg_spec.specs.Syntax.{Spot, Placed, number, named, negated, added, subtracted, multiplied, divided, raised, sum_call, product_call, harmonic, harmonic_of_order, factorial, binomial, constant_power}
-use Rattle.sg_spec.specs.Reading.{is_variable, is_parameter, is_known, inside, signed, tree_in, is_polynomial, is_divisor, is_constant, is_small, Kind, numeral_fault, exponent_fault, unbound, form, unlimited, fault_unless, bound_faults, call_faults, Fault, faults, HasTree, Reads}
+use Rattle.sg_spec.specs.Reading.{is_variable, is_parameter, is_known, inside, signed, tree_in, is_polynomial, is_divisor, is_constant, is_small, Kind, exponent_fault, unbound, form, unlimited, fault_unless, bound_faults, call_faults, Fault, faults, HasTree}
 use Rattle.sg_spec.specs.Printing.{has_parameter, IsPrintable, is_polynomial_tree, is_divisor_tree, is_constant_tree, InForm}
 use Rattle.sg_text.specs.declared.printing.Level.{Level}
 use Rattle.sg_text.specs.declared.printing.Level.TheVariants.{Sum, Term, Factor, Atom}
@@ -323,34 +322,43 @@ in_form i names (multiplied x y) h n =
     (in_form i names x (left_empty (faults unlimited i names x) (faults unlimited i names y) h) (omega arith), in_form i names y (right_empty (faults unlimited i names x) (faults unlimited i names y) h) (omega arith))
 in_form i names (divided x s y) h n =
     let test : List Fault = fault_unless (is_divisor names y) form s.place in
-    let top : faults unlimited i names x ++ test ≡ [] = left_empty (faults unlimited i names x ++ test) (faults unlimited i names y) h in
-    (in_form i names x (left_empty (faults unlimited i names x) test top) (omega arith),
-     in_form i names y (right_empty (faults unlimited i names x ++ test) (faults unlimited i names y) h) (omega arith),
-     divisor-tree names y (holds_if (is_divisor names y) form s.place (right_empty (faults unlimited i names x) test top)))
+    let top : faults unlimited i names x ++ test ≡ [] = left_empty (faults unlimited i names x ++ test) (faults unlimited i names y) h in (
+      in_form i names x (left_empty (faults unlimited i names x) test top) (omega arith),
+      in_form i names y (right_empty (faults unlimited i names x ++ test) (faults unlimited i names y) h) (omega arith),
+      divisor-tree names y (holds_if (is_divisor names y) form s.place (right_empty (faults unlimited i names x) test top)),
+    )
 in_form i names (raised x e) h n = in_form i names x (left_empty (faults unlimited i names x) [] h) n
 in_form i names (sum_call c bound sign lower upper x) h n =
     let mine : bound_faults unlimited i names c bound sign lower upper ≡ [] = left_empty (bound_faults unlimited i names c bound sign lower upper) (faults unlimited i (inside bound.value names) x) h in
     let alone : i ≡ false = bound_alone i names c bound sign lower upper mine in
-    let body : faults unlimited i (inside bound.value names) x ≡ [] = right_empty (bound_faults unlimited i names c bound sign lower upper) (faults unlimited i (inside bound.value names) x) h in
-    (alone, bound_small i names c bound sign lower upper mine,
-     subst (λ q. InForm q false (tree_in (inside bound.value names) x)) (inside_parameter bound.value names)
-     (subst (λ q. InForm (has_parameter (inside bound.value names)) q (tree_in (inside bound.value names) x)) alone (in_form i (inside bound.value names) x body n)))
+    let body : faults unlimited i (inside bound.value names) x ≡ [] = right_empty (bound_faults unlimited i names c bound sign lower upper) (faults unlimited i (inside bound.value names) x) h in (
+      alone,
+      bound_small i names c bound sign lower upper mine,
+      subst (λ q. InForm q false (tree_in (inside bound.value names) x)) (inside_parameter bound.value names)
+          (subst (λ q. InForm (has_parameter (inside bound.value names)) q (tree_in (inside bound.value names) x)) alone (in_form i (inside bound.value names) x body n)),
+    )
 in_form i names (product_call c bound sign lower upper x) h n =
     let mine : bound_faults unlimited i names c bound sign lower upper ≡ [] = left_empty (bound_faults unlimited i names c bound sign lower upper) (faults unlimited true (inside bound.value names) x) h in
-    let body : faults unlimited true (inside bound.value names) x ≡ [] = right_empty (bound_faults unlimited i names c bound sign lower upper) (faults unlimited true (inside bound.value names) x) h in
-    (bound_alone i names c bound sign lower upper mine, bound_small i names c bound sign lower upper mine,
-     subst (λ q. InForm q true (tree_in (inside bound.value names) x)) (inside_parameter bound.value names) (in_form true (inside bound.value names) x body n))
+    let body : faults unlimited true (inside bound.value names) x ≡ [] = right_empty (bound_faults unlimited i names c bound sign lower upper) (faults unlimited true (inside bound.value names) x) h in (
+      bound_alone i names c bound sign lower upper mine,
+      bound_small i names c bound sign lower upper mine,
+      subst (λ q. InForm q true (tree_in (inside bound.value names) x)) (inside_parameter bound.value names) (in_form true (inside bound.value names) x body n),
+    )
 in_form i names (harmonic c v) h n = (call_alone i names c v h, refl, (natural 1, tt, refl))
-in_form i names (harmonic_of_order c v r) h n =
-    (call_alone i names c v (left_empty (call_faults i names c v) (fault_unless (not (r.value == 0) && true) exponent_fault r.place) h), refl,
-     elim (r.value == 1) as (λ q. InForm (has_parameter names) false (div (numeral (pos 1)) (cond q here (power here r.value)))) [ true ↦ (natural 1, tt, refl) | false ↦ (natural 1, tt, refl) ])
+in_form i names (harmonic_of_order c v r) h n = (
+  call_alone i names c v (left_empty (call_faults i names c v) (fault_unless (not (r.value == 0) && true) exponent_fault r.place) h),
+  refl,
+  elim (r.value == 1) as (λ q. InForm (has_parameter names) false (div (numeral (pos 1)) (cond q here (power here r.value)))) [ true ↦ (natural 1, tt, refl) | false ↦ (natural 1, tt, refl) ],
+)
 in_form i names (factorial c v) h n = (call_alone i names c v h, refl, tt)
 in_form i names (binomial c s x v) h n =
     let test : List Fault = fault_unless (is_constant names x) form s.place in
     let top : call_faults i names c v ++ test ≡ [] = left_empty (call_faults i names c v ++ test) (faults unlimited i names x) h in
-    let constant : is_constant_tree (tree_in names x) ≡ true = constant-tree names x (holds_if (is_constant names x) form s.place (right_empty (call_faults i names c v) test top)) in
-    (call_alone i names c v (left_empty (call_faults i names c v) test top), refl,
-     (((constant-form (has_parameter names) i true (tree_in names x) constant (in_form i names x (right_empty (call_faults i names c v ++ test) (faults unlimited i names x) h) n), natural 1), tt), tt, refl))
+    let constant : is_constant_tree (tree_in names x) ≡ true = constant-tree names x (holds_if (is_constant names x) form s.place (right_empty (call_faults i names c v) test top)) in (
+      call_alone i names c v (left_empty (call_faults i names c v) test top),
+      refl,
+      (((constant-form (has_parameter names) i true (tree_in names x) constant (in_form i names x (right_empty (call_faults i names c v ++ test) (faults unlimited i names x) h) n), natural 1), tt), tt, refl),
+    )
 in_form i names (constant_power c x v) h n =
     (call_alone i names c v (left_empty (call_faults i names c v) (faults unlimited i names x) h), refl, form-const (has_parameter names) names x (no_bad (is_const x) n))
 

@@ -1,15 +1,18 @@
 //! The printed form of expressions.
-ghost use Rattle.std.specs.Prelude.{◌≡◌, ◌++◌, ◌∷◌, [], ◌<◌, ℕ, ℤ, List, false, get_or, IfOk, OnOk, decimal, unsigned_abs};
+ghost use Rattle.std.specs.Prelude.{◌≡◌, ◌++◌, ◌∷◌, [], ◌<◌, ℕ, ℤ, List, get_or, IfOk, OnOk, decimal, unsigned_abs};
 ghost use Rattle.sg_spec.specs.Syntax.{Placed};
 ghost use Rattle.sg_spec.specs.Tree.{Tree, add, div, sum_from, prod_from};
 ghost use Rattle.sg_spec.specs.Reading.{Bounds, Reads, IsRead};
-ghost use Rattle.sg_spec.specs.Printing.{AreNames, SparesBound, has_parameter, is_constant_tree, InForm, IsShort, KeepsBounds};
-ghost use Rattle.sg_text.specs.PrintedText.{next_bound, sign_of, is_one, is_numeral, is_here, is_minus_here, power_order, harmonic_order, is_falling, is_quotient, body_form, product_form, written, written_sum, left_of, level_of, is_below, text_at, added_text, limit_text, call_text, plain, printed};
+ghost use Rattle.sg_spec.specs.Printing.{SparesBound, IsPrintable, is_constant_tree, IsShort, KeepsBounds, HasFewest, NoBlank};
+ghost use Rattle.sg_num.specs.Value.{fraction};
+ghost use Rattle.std.specs.Fmt.{signed_decimal};
+ghost use Rattle.sg_text.specs.Reads.{IsFree};
+ghost use Rattle.sg_text.specs.PrintedText.{next_bound, sign_of, is_one, is_numeral, is_here, is_minus_here, power_order, harmonic_order, is_falling, is_quotient, body_form, product_form, written, written_sum, left_of, level_of, is_below, text_at, added_text, limit_text, call_text, plain, printed, fraction_text};
 ghost use Rattle.sg_expr.specs.Tree.{tree_of};
 
 use itoa::Buffer;
 use sg_expr::Expr;
-use sg_num::Row;
+use sg_num::{Rat, Row};
 use std::alloc::{AllocError, Global};
 
 // A level of the grammar; each one holds those after it.
@@ -64,6 +67,13 @@ fn push_all(out: &mut Row<u8>, bytes: &[u8]) -> Result<(), AllocError>
 
 fn push_number(out: &mut Row<u8>, n: u128) -> Result<(), AllocError>
     ensures { OnOk result (out.new ≡ out.old ++ decimal n) }
+{
+    let mut buffer = Buffer::new();
+    push_all(out, buffer.format(n).as_bytes())
+}
+
+fn push_signed(out: &mut Row<u8>, n: i128) -> Result<(), AllocError>
+    ensures { OnOk result (out.new ≡ out.old ++ signed_decimal n) }
 {
     let mut buffer = Buffer::new();
     push_all(out, buffer.format(n).as_bytes())
@@ -154,7 +164,11 @@ fn power_order(e: &Expr) -> u128
 {
     match e {
         Expr::Here => 1,
-        Expr::Pow(x, r) => if is_here(x) && *r > 1 && *r < 33 { *r } else { 0 },
+        Expr::Pow(x, r) => if is_here(x) && *r > 1 && *r < 33 {
+            *r
+        } else {
+            0
+        },
         _ => 0,
     }
 }
@@ -193,7 +207,11 @@ fn product_form(from: i64, body: &Expr) -> ProductForm
     match body {
         Expr::Here => ProductForm::Factorial,
         Expr::Num(_) => ProductForm::Power,
-        Expr::Neg(x) => if is_quotient(x) { ProductForm::Power } else { ProductForm::Full },
+        Expr::Neg(x) => if is_quotient(x) {
+            ProductForm::Power
+        } else {
+            ProductForm::Full
+        },
         Expr::Div(x, y) => quotient_form(x, y),
         _ => ProductForm::Full,
     }
@@ -226,16 +244,34 @@ fn is_below(own: Level, wanted: Level) -> bool
 }
 
 /// The text of an expression in one or two letters: the first names the variable, the second the parameter, and bound names
-/// are j and i in turn. It has no blanks and the shorthands wherever the tree is exactly theirs. The error is want of memory.
+/// are j and i in turn. It has no blanks, no parentheses that could be left out, and the shorthands wherever the tree is
+/// exactly theirs. The error is want of memory.
 pub fn print(alloc: Global, e: &Expr, free: &[u8]) -> Result<Row<u8>, AllocError>
-    requires letters { AreNames free.now }
+    requires letters { IsFree free.now }
     requires apart { SparesBound free.now }
-    requires form { InForm (has_parameter free.now) false (tree_of e.now) }
+    requires form { IsPrintable free.now (tree_of e.now) }
     ensures text { IfOk result (λ w. w ≡ printed free.now (tree_of e.now)) }
     ensures reads_back { IfOk result (λ w. Reads w free.now (tree_of e.now)) }
+    ensures only { IfOk result (λ w. (f : Tree) → Reads w free.now f → f ≡ tree_of e.now) }
     ensures bounded { IfOk result (λ w. (bounds : Bounds) → KeepsBounds bounds w → IsRead bounds free.now w (tree_of e.now)) }
+    ensures fewest { IfOk result (λ w. HasFewest w free.now (tree_of e.now)) }
+    ensures no_blank { IfOk result (λ w. NoBlank w) }
 {
     let out = print_plain(alloc, e, free)?;
+    Ok(out)
+}
+
+/// The text of a fraction: its numerator, where the denominator is 1, and the quotient of the two elsewhere, with a leading
+/// minus where it is negative. The error is want of memory.
+pub fn print_rat(alloc: Global, r: Rat) -> Result<Row<u8>, AllocError>
+    ensures { IfOk result (λ w. w ≡ fraction_text (fraction r)) }
+{
+    let mut out = Row::new(alloc);
+    push_signed(&mut out, r.num())?;
+    if r.den() != 1 {
+        out.push(b'/')?;
+        push_signed(&mut out, r.den())?;
+    }
     Ok(out)
 }
 
@@ -423,7 +459,13 @@ fn push_name(name: u8, out: &mut Row<u8>) -> Result<(), AllocError>
 
 // Writes a sum or a product in full.
 #[cycle(write)]
-fn write_call(word: &[u8], from: i64, body: &Expr, scope: Scope, out: &mut Row<u8>) -> Result<(), AllocError>
+fn write_call(
+    word: &[u8],
+    from: i64,
+    body: &Expr,
+    scope: Scope,
+    out: &mut Row<u8>,
+) -> Result<(), AllocError>
     ensures text { OnOk result (out.new ≡ out.old ++ (word.now ++ call_text scope.bound (sign_of from) (unsigned_abs from) scope.variable (plain (written scope.bound scope.parameter (next_bound scope.bound) (tree_of body.now))))) }
     ensures short { OnOk result (IsShort (tree_of body.now)) }
 {

@@ -11,10 +11,8 @@
 --   plain, text_at      the bytes of a written tree, and those at a place of this level
 --   added_text          the bytes that follow the left operand of a sum
 --   printed             the text of a tree in these letters
---   fraction_text       the text of a fraction
 use Rattle.std.specs.Prelude.{◌==◌, ℕ, zero, suc, nat_lt, ℤ, pos, negsuc, unsigned_abs, Bool, true, false, cond, ◌&&◌, List, [], ◌∷◌, ◌++◌, get_or, codes}
-use Rattle.std.specs.Fmt.{decimal, signed_decimal}
-use Rattle.sg_algebra.specs.Fraction.{Fraction}
+use Rattle.std.specs.Fmt.{decimal}
 use Rattle.sg_spec.specs.Tree.{Tree, numeral, here, param, add, neg, mul, div, power, sum_from, prod_from}
 use Rattle.sg_spec.specs.Syntax.{Spot, Placed, number, named, negated, added, subtracted, multiplied, divided, raised, sum_call, product_call, harmonic, harmonic_of_order, factorial, binomial, constant_power}
 use Rattle.sg_spec.specs.Printing.{is_constant_tree}
@@ -183,6 +181,3 @@ added_text v p bound x = 43 ∷ text_at Term (written v p bound x)
 
 abbrev pub printed : List ℕ → Tree → List ℕ
 printed names e = plain (written (get_or names 0 0) (get_or names 1 0) 106 e)
-
-abbrev pub fraction_text : Fraction → List ℕ
-fraction_text x = cond (x.den == 1) (signed_decimal x.num) (signed_decimal x.num ++ (47 ∷ decimal x.den))

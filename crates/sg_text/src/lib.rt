@@ -17,5 +17,5 @@ mod ways;
 
 pub use bounds::Bounds;
 pub use fault::ReadFault;
-pub use printing::{print, print_rat};
+pub use printing::print;
 pub use reader::read;

@@ -4,15 +4,13 @@ ghost use Rattle.sg_spec.specs.Syntax.{Placed};
 ghost use Rattle.sg_spec.specs.Tree.{Tree, add, div, sum_from, prod_from};
 ghost use Rattle.sg_spec.specs.Reading.{Bounds, Reads, IsRead};
 ghost use Rattle.sg_spec.specs.Printing.{SparesBound, IsPrintable, is_constant_tree, IsShort, KeepsBounds, HasFewest, NoBlank};
-ghost use Rattle.sg_num.specs.Value.{fraction};
-ghost use Rattle.std.specs.Fmt.{signed_decimal};
 ghost use Rattle.sg_text.specs.Reads.{IsFree};
-ghost use Rattle.sg_text.specs.PrintedText.{next_bound, sign_of, is_one, is_numeral, is_here, is_minus_here, power_order, harmonic_order, is_falling, is_quotient, body_form, product_form, written, written_sum, left_of, level_of, is_below, text_at, added_text, limit_text, call_text, plain, printed, fraction_text};
+ghost use Rattle.sg_text.specs.PrintedText.{next_bound, sign_of, is_one, is_numeral, is_here, is_minus_here, power_order, harmonic_order, is_falling, is_quotient, body_form, product_form, written, written_sum, left_of, level_of, is_below, text_at, added_text, limit_text, call_text, plain, printed};
 ghost use Rattle.sg_expr.specs.Tree.{tree_of};
 
 use itoa::Buffer;
 use sg_expr::Expr;
-use sg_num::{Rat, Row};
+use sg_num::Row;
 use std::alloc::{AllocError, Global};
 
 // A level of the grammar; each one holds those after it.
@@ -67,13 +65,6 @@ fn push_all(out: &mut Row<u8>, bytes: &[u8]) -> Result<(), AllocError>
 
 fn push_number(out: &mut Row<u8>, n: u128) -> Result<(), AllocError>
     ensures { OnOk result (out.new ≡ out.old ++ decimal n) }
-{
-    let mut buffer = Buffer::new();
-    push_all(out, buffer.format(n).as_bytes())
-}
-
-fn push_signed(out: &mut Row<u8>, n: i128) -> Result<(), AllocError>
-    ensures { OnOk result (out.new ≡ out.old ++ signed_decimal n) }
 {
     let mut buffer = Buffer::new();
     push_all(out, buffer.format(n).as_bytes())
@@ -258,20 +249,6 @@ pub fn print(alloc: Global, e: &Expr, free: &[u8]) -> Result<Row<u8>, AllocError
     ensures no_blank { IfOk result (λ w. NoBlank w) }
 {
     let out = print_plain(alloc, e, free)?;
-    Ok(out)
-}
-
-/// The text of a fraction: its numerator, where the denominator is 1, and the quotient of the two elsewhere, with a leading
-/// minus where it is negative. The error is want of memory.
-pub fn print_rat(alloc: Global, r: Rat) -> Result<Row<u8>, AllocError>
-    ensures { IfOk result (λ w. w ≡ fraction_text (fraction r)) }
-{
-    let mut out = Row::new(alloc);
-    push_signed(&mut out, r.num())?;
-    if r.den() != 1 {
-        out.push(b'/')?;
-        push_signed(&mut out, r.den())?;
-    }
     Ok(out)
 }
 

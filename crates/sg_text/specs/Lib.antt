@@ -9,3 +9,4 @@ pub mod Limited
 pub mod Fits
 pub mod Reads
 pub mod PrintedText
+pub mod RationalText

@@ -1,0 +1,16 @@
+//! The limits on the expressions of a command, each counted exactly as it is defined, and where their sums start.
+#![tactic(auto)]
+
+mod degrees;
+mod fault;
+mod inspection;
+mod lists;
+mod sizes;
+mod start;
+
+pub use fault::LimitFault;
+pub use inspection::{Facts, inspect};
+pub use start::start_of;
+
+#[cfg(test)]
+mod tests;

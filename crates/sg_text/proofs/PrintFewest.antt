@@ -3,6 +3,7 @@
 --   sum-closed, ..      a call needs one pair more than its body, at most
 --   fewer               a tree needs no more of them as it is printed than in any way to write it
 --   printed-fewest      so the printed text has the fewest
+--   none_to_spare       and none of its pairs can be taken away
 use Rattle.std.specs.Prelude.{◌≡◌, ◌≢◌, ◌==◌, ℕ, zero, suc, ◌+◌, ◌≤◌, ◌<◌, ◌^◌, ℤ, pos, negsuc, unsigned_abs, Bool, true, false, cond, ◌&&◌, List, [], ◌∷◌, ◌++◌, get_or}
 use Rattle.std.proofs.Common.{refl, sym, subst, ap, ◌∙◌, arith, inl, inr}
 use Rattle.std.proofs.lemmas.Bool.Decides.{nat_tests}
@@ -12,7 +13,7 @@ use Rattle.std.specs.Str.Parse.{AllDigits, IsNumeral}
 use Rattle.std.proofs.lemmas.Str.Parse.{digit_from_value}
 use Rattle.sg_spec.specs.Tree.{Tree, numeral, here, param, add, neg, div, power}
 use Rattle.sg_spec.specs.Syntax.{Placed, number, named, negated, added, subtracted, multiplied, divided, raised, sum_call, product_call, harmonic, harmonic_of_order, factorial, binomial, constant_power}
-use Rattle.sg_spec.specs.Reading.{is_variable, inside, signed, tree_in, is_divisor, is_constant, form, unlimited, fault_unless, bound_faults, call_faults, Fault, faults}
+use Rattle.sg_spec.specs.Reading.{is_variable, inside, signed, tree_in, is_divisor, is_constant, form, unlimited, fault_unless, bound_faults, call_faults, Fault, faults, Reads}
 use Rattle.sg_spec.specs.Printing.{is_constant_tree, IsShort, closed_in, HasFewest}
 use Rattle.sg_text.specs.Reads.{IsLetter, IsFree}
 use Rattle.sg_text.specs.declared.printing.ProductForm.{ProductForm}
@@ -304,3 +305,13 @@ printed-fewest names e h short u r =
     let paying = parens_paid u r.placed r.has_tree in
     let same = paid-closed u in
     omega arith
+
+-- so no pair can be taken away: what is left reads as no text, or as another tree
+pub none_to_spare : (w names : List ℕ) (e : Tree) → HasFewest w names e → (u v x : List ℕ) → w ≡ u ++ (40 ∷ (v ++ (41 ∷ x))) → Reads (u ++ (v ++ x)) names e → ⊥
+none_to_spare w names e h u v x is r =
+    let least = h (u ++ (v ++ x)) r in
+    let with = ap closed_in is ∙ closed-append u (40 ∷ (v ++ (41 ∷ x))) in
+    let inner = closed-append v (41 ∷ x) in
+    let without = closed-append u (v ++ x) in
+    let rest = closed-append v x in
+    absurd (omega arith)

@@ -20,3 +20,7 @@ pub mod PrintMeanings
 pub mod PrintCalls
 pub mod PrintReads
 pub mod PrintBounds
+pub mod PrintCosts
+pub mod PrintForms
+pub mod PrintFewest
+pub mod PrintBlanks

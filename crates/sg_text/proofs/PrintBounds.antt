@@ -2,10 +2,10 @@
 --   no_fault-limited    a placed tree whose numbers are taken has a fault only if it has one without limits
 --   is_read             a text that reads as a tree does so under all bounds that it keeps
 use Rattle.std.specs.Prelude.{◌≡◌, ◌==◌, ℕ, Bool, true, false, not, ◌&&◌, List, [], ◌∷◌, ◌++◌}
-use Rattle.std.proofs.Common.{refl, sym, ap, ◌∙◌}
+use Rattle.std.proofs.Common.{refl, ap, ◌∙◌}
 use Rattle.sg_spec.specs.Tree.{Tree}
 use Rattle.sg_spec.specs.Syntax.{Spot, Placed, number, named, negated, added, subtracted, multiplied, divided, raised, sum_call, product_call, harmonic, harmonic_of_order, factorial, binomial, constant_power}
-use Rattle.sg_spec.specs.Reading.{is_variable, is_parameter, inside, is_divisor, is_constant, is_small, Kind, numeral_fault, exponent_fault, form, Limits, Bounds, unlimited, fault_unless, bound_faults, call_faults, faults, Fault, Reads, IsRead}
+use Rattle.sg_spec.specs.Reading.{is_variable, is_parameter, inside, is_divisor, is_constant, is_small, numeral_fault, exponent_fault, form, Limits, Bounds, unlimited, fault_unless, bound_faults, call_faults, faults, Fault, Reads, IsRead}
 use Rattle.sg_spec.specs.Printing.{keeps_numbers, KeepsBounds}
 use Rattle.sg_text.proofs.Meanings.{both_empty, no_fault_if}
 use Rattle.sg_text.proofs.PrintSteps.{left_true, right_true}

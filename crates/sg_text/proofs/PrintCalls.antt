@@ -2,12 +2,11 @@
 --   AtLevel          a text that reads at a level of the grammar
 --   lift_sum, ..     a text of any level, in parentheses where it needs them, at a place of the level
 --   atom-..          the text of each call
-use Rattle.std.specs.Prelude.{◌≡◌, ℕ, ◌+◌, ◌≤◌, ◌<◌, ◌^◌, ℤ, pos, negsuc, unsigned_abs, Bool, true, false, List, [], ◌∷◌, ◌++◌, codes}
-use Rattle.std.proofs.Common.{refl, sym, subst, ap, ◌∙◌, arith, append_assoc}
+use Rattle.std.specs.Prelude.{◌≡◌, ℕ, ◌+◌, ◌≤◌, ◌<◌, ◌^◌, ℤ, pos, negsuc, unsigned_abs, List, [], ◌∷◌, ◌++◌, codes}
+use Rattle.std.proofs.Common.{refl, sym, subst, ap, ◌∙◌, append_assoc}
 use Rattle.std.specs.Fmt.{decimal}
 use Rattle.std.proofs.lemmas.Fmt.{decimal_is_IsNumeral_wide}
-use Rattle.std.specs.Str.Parse.{IsNumeral, digits_value}
-use Rattle.sg_spec.specs.Grammar.{Action, mark, letter, minus_sign, use_number, negate, divide, make_sum, make_product, make_harmonic, make_harmonic_of_order, make_factorial, make_binomial, make_power, Symbol, span, act, blanks, expr, atom, worded, call, bounds_and_body, name_and_order, one_name, expr_and_name, const_and_name, order, int, const, divisor, name, digits, rules, IsOneOf, first, later}
+use Rattle.sg_spec.specs.Grammar.{mark, letter, minus_sign, use_number, negate, divide, make_sum, make_product, make_harmonic, make_harmonic_of_order, make_factorial, make_binomial, make_power, Symbol, span, act, blanks, expr, atom, worded, call, bounds_and_body, name_and_order, one_name, expr_and_name, const_and_name, order, int, const, divisor, name, digits, rules, IsOneOf, first, later}
 use Rattle.sg_spec.specs.Syntax.{Spot, Placed, number, negated, divided, raised, sum_call, product_call, harmonic, harmonic_of_order, factorial, binomial, constant_power, State, after_byte}
 use Rattle.sg_text.specs.declared.printing.Level.{Level}
 use Rattle.sg_text.specs.declared.printing.Level.TheVariants.{Sum, Term, Factor, Atom}
@@ -123,7 +122,7 @@ module _ (G : Placed → Type 0) where
       let rest : List ℕ = 44 ∷ (v ∷ (44 ∷ (x ++ (41 ∷ w)))) in
       let grouped : (limit ++ (44 ∷ (v ∷ (44 ∷ (x ++ (41 ∷ [])))))) ++ w ≡ limit ++ rest =
       append_assoc limit (44 ∷ (v ∷ (44 ∷ (x ++ (41 ∷ []))))) w ∙ ap (λ q. limit ++ (44 ∷ (v ∷ (44 ∷ q)))) (append_assoc x (41 ∷ []) w) in
-      ends_way G bounds_and_body (span 40 0 ∷ (blanks ∷ (name ∷ (span 44 0 ∷ (blanks ∷ (act mark ∷ (int ∷ (span 44 0 ∷ (blanks ∷ (name ∷ (span 44 0 ∷ (blanks ∷ (expr ∷ (span 41 0 ∷ (blanks ∷ [])))))))))))))) ) parts (call_text b (sign_of z) (unsigned_abs z) v x ++ w) (reading p l marks numbers trees) refl first
+      ends_way G bounds_and_body (span 40 0 ∷ (blanks ∷ (name ∷ (span 44 0 ∷ (blanks ∷ (act mark ∷ (int ∷ (span 44 0 ∷ (blanks ∷ (name ∷ (span 44 0 ∷ (blanks ∷ (expr ∷ (span 41 0 ∷ (blanks ∷ []))))))))))))))) parts (call_text b (sign_of z) (unsigned_abs z) v x ++ w) (reading p l marks numbers trees) refl first
       (subst (λ q. Ends G (span 40 0 ∷ (blanks ∷ (name ∷ after_bound))) (40 ∷ (b ∷ (44 ∷ q))) (reading p l marks numbers trees)) (sym grouped)
       (ends_token 40 (name ∷ after_bound) (b ∷ (44 ∷ (limit ++ rest))) (reading p l marks numbers trees)
       (ends_name b after_bound (44 ∷ (limit ++ rest)) (p + 1) 40 marks numbers trees blow bhigh

@@ -1,16 +1,15 @@
 -- What the parts of a printed text mean, with the tests that a reader makes of them.
 --   Fine      a placed tree without fault, its tree, and what it is for those tests
 --   fine-..   the same for each kind of placed tree
-use Rattle.std.specs.Prelude.{◌≡◌, ◌==◌, ℕ, ℤ, pos, negsuc, unsigned_abs, Bool, true, false, not, cond, ◌&&◌, ◌||◌, List, [], ◌∷◌, ◌++◌}
-use Rattle.std.proofs.Common.{refl, sym, ap, ◌∙◌, arith}
-use Rattle.std.proofs.lemmas.Bool.Decides.{nat_tests}
+use Rattle.std.specs.Prelude.{◌≡◌, ◌==◌, ℕ, ℤ, pos, negsuc, unsigned_abs, Bool, true, false, not, cond, ◌&&◌, ◌||◌, List, [], ◌++◌}
+use Rattle.std.proofs.Common.{refl, ap, ◌∙◌}
 use Rattle.sg_spec.specs.Tree.{Tree, numeral, here, param, add, neg, mul, div, power, sum_from, prod_from}
 use Rattle.sg_spec.specs.Syntax.{Spot, Placed, number, named, negated, added, subtracted, multiplied, divided, raised, sum_call, product_call, harmonic, harmonic_of_order, factorial, binomial, constant_power}
-use Rattle.sg_spec.specs.Reading.{is_variable, is_parameter, is_known, inside, signed, harmonic_sum, binomial_product, tree_in, is_polynomial, is_divisor, is_constant, is_small, Kind, numeral_fault, exponent_fault, unbound, form, Limits, unlimited, fault_unless, bound_faults, call_faults, faults}
+use Rattle.sg_spec.specs.Reading.{is_variable, is_parameter, is_known, inside, signed, harmonic_sum, binomial_product, tree_in, is_polynomial, is_divisor, is_constant, is_small, exponent_fault, unbound, form, unlimited, fault_unless, bound_faults, call_faults, faults}
 use Rattle.sg_spec.specs.Printing.{is_polynomial_tree, is_divisor_tree, is_constant_tree}
 use Rattle.sg_text.specs.PrintedText.{sign_of}
-use Rattle.sg_text.proofs.Printed.{at_spot, Means, MeansDivisor}
-use Rattle.sg_text.proofs.Meanings.{both_empty, no_fault_if, same_letter, means-number, means-neg, means-add, means-sub, means-mul, means-div, means-power, means-variable}
+use Rattle.sg_text.proofs.Printed.{at_spot, Means}
+use Rattle.sg_text.proofs.Meanings.{both_empty, no_fault_if, means-number, means-neg, means-add, means-sub, means-mul, means-div, means-power}
 use Rattle.sg_text.proofs.PrintSteps.{left_true, right_true}
 
 pub record Fine (names : List ℕ) (in_product : Bool) (e : Tree) (t : Placed) : Type 0 where

@@ -3,22 +3,19 @@
 --   Writes             a tree that is written in a scope reads as it at its level
 --   writes             every tree in reader's form does
 --   reads-printed      the text of a tree reads as it
-use Rattle.std.specs.Prelude.{◌≡◌, ◌≢◌, ◌==◌, ℕ, zero, suc, ◌+◌, ◌≤◌, ◌<◌, ◌^◌, nat_lt, ℤ, pos, negsuc, ◌≤ℤ◌, unsigned_abs, Bool, true, false, cond, ◌&&◌, ◌⊎◌, List, [], ◌∷◌, ◌++◌, get_or, codes}
+use Rattle.std.specs.Prelude.{◌≡◌, ◌≢◌, ◌==◌, ℕ, zero, suc, ◌<◌, ◌^◌, nat_lt, ℤ, pos, negsuc, ◌≤ℤ◌, unsigned_abs, Bool, true, false, cond, ◌&&◌, ◌⊎◌, List, [], ◌∷◌, ◌++◌, get_or, codes}
 use Rattle.std.proofs.Common.{refl, sym, subst, ap, ◌∙◌, arith, inl, inr}
 use Rattle.std.proofs.lemmas.Bool.Decides.{nat_tests}
 use Rattle.std.proofs.lemmas.Int.{ints}
-use Rattle.std.specs.Fmt.{decimal}
-use Rattle.std.proofs.lemmas.Fmt.{decimal_is_IsNumeral_wide}
-use Rattle.std.specs.Str.Parse.{digits_value}
 use Rattle.sg_spec.specs.Tree.{Tree, numeral, here, param, add, neg, mul, div, power, sum_from, prod_from}
-use Rattle.sg_spec.specs.Syntax.{Placed, number, named, negated, added, subtracted, multiplied, divided, raised, sum_call, product_call, harmonic, harmonic_of_order, factorial, binomial, constant_power}
-use Rattle.sg_spec.specs.Reading.{is_variable, is_parameter, inside, is_small, harmonic_sum, binomial_product, unlimited, Reads}
-use Rattle.sg_spec.specs.Printing.{IsLetter, AreNames, SparesBound, has_parameter, is_polynomial_tree, is_divisor_tree, is_constant_tree, InForm, IsShort}
+use Rattle.sg_spec.specs.Syntax.{Placed, number, negated, harmonic, harmonic_of_order}
+use Rattle.sg_spec.specs.Reading.{is_parameter, is_small, harmonic_sum, binomial_product, unlimited, Reads}
+use Rattle.sg_spec.specs.Printing.{SparesBound, has_parameter, is_constant_tree, InForm, IsShort}
+use Rattle.sg_text.specs.Reads.{IsLetter, IsFree}
 use Rattle.sg_text.specs.declared.printing.ProductForm.{ProductForm}
 use Rattle.sg_text.specs.declared.printing.ProductForm.TheVariants.{Full, Factorial, Binomial, Power}
-use Rattle.sg_text.specs.declared.printing.Level.{Level}
-use Rattle.sg_text.specs.declared.printing.Level.TheVariants.{Sum, Term, Factor, Atom}
-use Rattle.sg_text.specs.PrintedText.{spot_of, next_bound, sign_of, is_first, is_one, is_numeral, is_here, is_minus_here, power_order, body_order, harmonic_order, is_constant_plus_one, is_falling, is_quotient, body_form, product_form, written_sum, written_product, left_of, written, level_of, at_level, plain, printed}
+use Rattle.sg_text.specs.declared.printing.Level.TheVariants.{Term, Factor, Atom}
+use Rattle.sg_text.specs.PrintedText.{spot_of, next_bound, is_first, is_one, is_numeral, is_here, is_minus_here, power_order, body_order, harmonic_order, is_falling, is_quotient, body_form, product_form, written_sum, written_product, left_of, written, level_of, at_level, plain, printed}
 use Rattle.sg_text.proofs.Printed.{at_spot, Means, sum-add, sum-sub, sum-neg, product-mul, product-div, atom-name, reads_text, Sum as SumText}
 use Rattle.sg_text.proofs.PrintSteps.{written_left, left_true, right_true}
 use Rattle.sg_text.proofs.PrintMeanings.{Fine, fine-number, fine-neg, fine-add, fine-sub, fine-mul, fine-div, fine-power, fine-parameter, fine-variable, fine-sum, fine-product, fine-harmonic, fine-harmonic_of_order, fine-factorial, fine-binomial, fine-constant_power}
@@ -35,11 +32,11 @@ pub record Letters (v p : ℕ) (others : List ℕ) : Type 0 where
 differ : (v p : ℕ) → (v ≢ p) → (v == p) ≡ false
 differ v p h = grind (arith, nat_tests)
 
-letter-bound : (b : ℕ) → IsBound b → IsLetter b
+pub letter-bound : (b : ℕ) → IsBound b → IsLetter b
 letter-bound b (inl e) = (omega arith, omega arith)
 letter-bound b (inr e) = (omega arith, omega arith)
 
-bound-next : (b : ℕ) → IsBound b → IsBound (next_bound b)
+pub bound-next : (b : ℕ) → IsBound b → IsBound (next_bound b)
 bound-next b (inl e) = inr (ap next_bound e)
 bound-next b (inr e) = inl (ap next_bound e)
 
@@ -63,10 +60,10 @@ same_parameter : (v b : ℕ) (others : List ℕ) → has_parameter (v ∷ others
 same_parameter v b [] = refl
 same_parameter v b (q ∷ more) = refl
 
-small_limit : (n : ℕ) → is_small n ≡ true → n < 10 ^ 64
+pub small_limit : (n : ℕ) → is_small n ≡ true → n < 10 ^ 64
 small_limit n h = let k : n < 1001 = grind (arith, nat_tests) in omega arith
 
-same : (v : ℕ) → (v == v) ≡ true
+pub same : (v : ℕ) → (v == v) ≡ true
 same v = grind (arith, nat_tests)
 
 is-first : (z : ℤ) → is_first z ≡ true → z ≡ pos 1
@@ -106,7 +103,7 @@ is-power (power x n) r h =
     (omega arith, ap (λ q. power q n) (is-here x (left_true (is_here x) (nat_lt 1 n) both)) ∙ ap (power here) e ∙ ap (λ q. cond q here (power here (suc r))) (sym other))
 is-power y r h = absurd (omega arith)
 
-is-harmonic : (z : ℤ) (x : Tree) (r : ℕ) → harmonic_order z x ≡ suc r → (suc r < 33) × (sum_from z x ≡ harmonic_sum (suc r))
+pub is-harmonic : (z : ℤ) (x : Tree) (r : ℕ) → harmonic_order z x ≡ suc r → (suc r < 33) × (sum_from z x ≡ harmonic_sum (suc r))
 is-harmonic z (div x y) r h =
     let (t, k) = order_if (is_first z) (body_order (div x y)) r h in
     let (u, m) = order_if (is_one x) (power_order y) r k in
@@ -115,7 +112,7 @@ is-harmonic z (div x y) r h =
 is-harmonic z x r h =
     let (t, k) = order_if (is_first z) 0 r h in absurd (omega arith)
 
-split_form : (t : Bool) (f g : ProductForm) → (Full ≡ g → ⊥) → cond t f Full ≡ g → (t ≡ true) × (f ≡ g)
+pub split_form : (t : Bool) (f g : ProductForm) → (Full ≡ g → ⊥) → cond t f Full ≡ g → (t ≡ true) × (f ≡ g)
 split_form true f g d h = (refl, h)
 split_form false f g d h = absurd (d h)
 
@@ -141,26 +138,39 @@ chosen_binomial t true h = refl
 chosen_binomial true false h = cc
 chosen_binomial false false h = cc
 
-abbrev falls : Tree → Bool
+abbrev pub falls : Tree → Bool
 falls (div x y) = is_falling x
 falls x = false
 
-not_binomial : (x : Tree) → falls x ≡ false → body_form x ≡ Binomial → ⊥
+pub not_binomial : (x : Tree) → falls x ≡ false → body_form x ≡ Binomial → ⊥
 not_binomial (neg x) e h = elim (is_quotient x) as (λ t. cond t Power Full ≡ Binomial → ⊥) [ true ↦ λ q. cc | false ↦ λ q. cc ] h
 not_binomial (div x y) e h =
     let t : is_falling x ≡ true = left_true (is_falling x) (is_here y) (chosen_binomial (is_numeral x && is_numeral y) (is_falling x && is_here y) h) in cc
 not_binomial x e h = cc
 
 -- x, its tests, and the tree of a binomial coefficient
-is-binomial : (x o m j : Tree) → body_form (div (add (add x o) m) j) ≡ Binomial → (is_constant_tree x ≡ true) × (div (add (add x o) m) j ≡ div (add (add x (numeral (pos 1))) (neg here)) here)
+pub is-binomial : (x o m j : Tree) → body_form (div (add (add x o) m) j) ≡ Binomial → (is_constant_tree x ≡ true) × (div (add (add x o) m) j ≡ div (add (add x (numeral (pos 1))) (neg here)) here)
 is-binomial x o m j h =
     let s = chosen_binomial false ((is_one o && is_constant_tree x && is_minus_here m) && is_here j) h in
     let top = left_true (is_one o && is_constant_tree x && is_minus_here m) (is_here j) s in
-    let more = left_true (is_one o && is_constant_tree x) (is_minus_here m) top in
-    (right_true (is_one o) (is_constant_tree x) more,
-     ap (λ q. div (add (add x q) m) j) (is-one o (left_true (is_one o) (is_constant_tree x) more))
-     ∙ ap (λ q. div (add (add x (numeral (pos 1))) q) j) (is-minus_here m (right_true (is_one o && is_constant_tree x) (is_minus_here m) top))
-     ∙ ap (λ q. div (add (add x (numeral (pos 1))) (neg here)) q) (is-here j (right_true (is_one o && is_constant_tree x && is_minus_here m) (is_here j) s)))
+    let more = left_true (is_one o && is_constant_tree x) (is_minus_here m) top in (
+      right_true (is_one o) (is_constant_tree x) more,
+      ap (λ q. div (add (add x q) m) j) (is-one o (left_true (is_one o) (is_constant_tree x) more))
+          ∙ ap (λ q. div (add (add x (numeral (pos 1))) q) j) (is-minus_here m (right_true (is_one o && is_constant_tree x) (is_minus_here m) top))
+          ∙ ap (λ q. div (add (add x (numeral (pos 1))) (neg here)) q) (is-here j (right_true (is_one o && is_constant_tree x && is_minus_here m) (is_here j) s)),
+    )
+
+-- constants may stand in a product or not
+pub constant-form : (known i j : Bool) (x : Tree) → is_constant_tree x ≡ true → InForm known i x → InForm known j x
+constant-form known i j (numeral z) c h = h
+constant-form known i j param c h = h
+constant-form known i j (add x y) c h =
+    (constant-form known i j x (left_true (is_constant_tree x) (is_constant_tree y) c) h.0, constant-form known i j y (right_true (is_constant_tree x) (is_constant_tree y) c) h.1)
+constant-form known i j (neg x) c h = constant-form known i j x c h
+constant-form known i j (mul x y) c h =
+    (constant-form known i j x (left_true (is_constant_tree x) (is_constant_tree y) c) h.0, constant-form known i j y (right_true (is_constant_tree x) (is_constant_tree y) c) h.1)
+constant-form known i j (power x e) c h = constant-form known i j x c h
+constant-form known i j x c h = cc
 
 module _ (G : Placed → Type 0) where
   abbrev pub Writes : List ℕ → Bool → Tree → Placed → Type 0
@@ -196,9 +206,11 @@ module _ (G : Placed → Type 0) where
       → Quotient G (Fine names false x) (plain (written w p b x)) × (plain (negated (written w p b x)) ≡ 45 ∷ plain (written w p b x))
   writes-quotient names w p b known in_product (numeral (pos n)) q h s = (quotient-number G (Fine names false (numeral (pos n))) n s (fine-number names false n), refl)
   writes-quotient names w p b known in_product (numeral (negsuc n)) q h s = absurd (omega (arith, ints))
-  writes-quotient names w p b known in_product (div (numeral (pos n)) (numeral (pos d))) q h s =
-      (quotient-two G (Fine names false (div (numeral (pos n)) (numeral (pos d)))) n d s.0 s.1
-      (λ i j k. fine-div names false (numeral (pos n)) (numeral (pos d)) (number (at_spot i n)) (number (at_spot j d)) (at_spot k 0) refl (fine-number names false n i) (fine-number names false d j)), refl)
+  writes-quotient names w p b known in_product (div (numeral (pos n)) (numeral (pos d))) q h s = (
+    quotient-two G (Fine names false (div (numeral (pos n)) (numeral (pos d)))) n d s.0 s.1
+        (λ i j k. fine-div names false (numeral (pos n)) (numeral (pos d)) (number (at_spot i n)) (number (at_spot j d)) (at_spot k 0) refl (fine-number names false n i) (fine-number names false d j)),
+    refl,
+  )
   writes-quotient names w p b known in_product (div (numeral (negsuc n)) y) q h s = let k : pos 0 ≤ℤ negsuc n = h.0 in absurd (omega (arith, ints))
   writes-quotient names w p b known in_product (div x (numeral (negsuc n))) q h s = let k : pos 0 ≤ℤ negsuc n = h.1 in absurd (omega (arith, ints))
   writes-quotient names w p b known in_product (div x y) q h s =
@@ -273,18 +285,6 @@ module _ (G : Placed → Type 0) where
   fits-same w v (inl e) = e
   fits-same w v (inr c) = cc
 
-  -- constants may stand in a product or not
-  constant-form : (known i j : Bool) (x : Tree) → is_constant_tree x ≡ true → InForm known i x → InForm known j x
-  constant-form known i j (numeral z) c h = h
-  constant-form known i j param c h = h
-  constant-form known i j (add x y) c h =
-      (constant-form known i j x (left_true (is_constant_tree x) (is_constant_tree y) c) h.0, constant-form known i j y (right_true (is_constant_tree x) (is_constant_tree y) c) h.1)
-  constant-form known i j (neg x) c h = constant-form known i j x c h
-  constant-form known i j (mul x y) c h =
-      (constant-form known i j x (left_true (is_constant_tree x) (is_constant_tree y) c) h.0, constant-form known i j y (right_true (is_constant_tree x) (is_constant_tree y) c) h.1)
-  constant-form known i j (power x e) c h = constant-form known i j x c h
-  constant-form known i j x c h = cc
-
   pub writes : (e : Tree) (in_product : Bool) (v w p b : ℕ) (others : List ℕ) → Letters v p others → IsBound b → Fits w v e
       → InForm (has_parameter (v ∷ others)) in_product e → IsShort e → Writes (v ∷ others) in_product e (written w p b e)
   writes (numeral (pos n)) i v w p b others l bound f h s = atom-decimal G (Fine (v ∷ others) i (numeral (pos n))) n s (fine-number (v ∷ others) i n)
@@ -346,11 +346,15 @@ module _ (G : Placed → Type 0) where
       let body : Tree = div (add (add x o) m) j in
       let inner : InForm (has_parameter (b ∷ others)) true body = subst (λ q. InForm q true body) (same_parameter v b others) h.2 in
       let y : Placed = written b p (next_bound b) body in
-      let left : Left (v ∷ others) body y = λ k. (let (constant, is) = is-binomial x o m j k in
-          (x, constant, is, subst (λ q. SumText G (Fine (v ∷ others) false x) (plain q)) (sym (written_left b p (next_bound b) x o m j))
-          (lift_sum G (level_of (written b p (next_bound b) x)) (Fine (v ∷ others) false x) (plain (written b p (next_bound b) x))
-          (writes x false v b p (next_bound b) others l (bound-next b bound) (inr constant)
-          (constant-form (has_parameter (v ∷ others)) true false x constant (h.2).0.0.0) s.0.0.0)))) in
+      let left : Left (v ∷ others) body y = λ k. (let (constant, is) = is-binomial x o m j k in (
+        x,
+        constant,
+        is,
+        subst (λ q. SumText G (Fine (v ∷ others) false x) (plain q)) (sym (written_left b p (next_bound b) x o m j))
+            (lift_sum G (level_of (written b p (next_bound b) x)) (Fine (v ∷ others) false x) (plain (written b p (next_bound b) x))
+            (writes x false v b p (next_bound b) others l (bound-next b bound) (inr constant)
+            (constant-form (has_parameter (v ∷ others)) true false x constant (h.2).0.0.0) s.0.0.0)),
+      )) in
       subst (λ q. Writes (v ∷ others) q (prod_from z body) (written w p b (prod_from z body))) (sym h.0)
       (subst (λ q. Writes (v ∷ others) false (prod_from z body) (written_product q b z (product_form z body) y)) (sym (fits-same w v f))
       (writes-product v (next_bound b) p b others z body l bound h.1 inner s
@@ -365,17 +369,23 @@ module _ (G : Placed → Type 0) where
       (writes x true b b p (next_bound b) others (letters-inside v p b others l bound) (bound-next b bound) (inl refl) inner s)
       (λ k. absurd (not_binomial x refl k)) (product_form z x) refl))
 
-print_letters : (names : List ℕ) → AreNames names → SparesBound names → (v : ℕ) × (others : List ℕ) × (names ≡ v ∷ others) × (get_or names 0 0 ≡ v) × Letters v (get_or names 1 0) others
+print_letters : (names : List ℕ) → IsFree names → SparesBound names → (v : ℕ) × (others : List ℕ) × (names ≡ v ∷ others) × (get_or names 0 0 ≡ v) × Letters v (get_or names 1 0) others
 print_letters [] h k = absurd h
 print_letters (v ∷ []) h k = (v, [], refl, refl, record { variable = h; parameter = λ q. cc; apart = λ b q. (refl, apart_zero b q) })
-print_letters (v ∷ (p ∷ [])) h k = (v, p ∷ [], refl, refl, record {
-  variable = h.0;
-  parameter = λ q. (same p, h.1, h.2);
-  apart = λ b q. (apart_from b p q k.0 k.1);
-})
+print_letters (v ∷ (p ∷ [])) h k = (
+  v,
+  p ∷ [],
+  refl,
+  refl,
+  record {
+    variable = h.0;
+    parameter = λ q. (same p, h.1, h.2);
+    apart = λ b q. (apart_from b p q k.0 k.1);
+  },
+)
 print_letters (v ∷ (p ∷ (q ∷ more))) h k = absurd h
 
-pub reads-printed : (names : List ℕ) (e : Tree) → AreNames names → SparesBound names → InForm (has_parameter names) false e → IsShort e → Reads (printed names e) names e
+pub reads-printed : (names : List ℕ) (e : Tree) → IsFree names → SparesBound names → InForm (has_parameter names) false e → IsShort e → Reads (printed names e) names e
 reads-printed names e h k f s =
     let (v, others, is, at, l) = print_letters names h k in
     let p : ℕ = get_or names 1 0 in

@@ -3,12 +3,11 @@
 --   onto_added, onto_left     the same after what stands before
 --   written_left     a sum is written with its left operand on the left
 --   short_left       where a product is a binomial coefficient, x is the only part with further numbers
-use Rattle.std.specs.Prelude.{◌≡◌, ◌==◌, ℕ, ◌<◌, ◌^◌, ℤ, pos, negsuc, unsigned_abs, Bool, true, false, cond, ◌&&◌, List, ◌++◌}
+use Rattle.std.specs.Prelude.{◌≡◌, ℕ, ◌<◌, ◌^◌, ℤ, pos, negsuc, unsigned_abs, Bool, true, false, cond, ◌&&◌, List, ◌++◌}
 use Rattle.std.proofs.Common.{refl, sym, ap, ◌∙◌, append_assoc, arith}
 use Rattle.std.proofs.lemmas.Bool.Decides.{nat_tests}
-use Rattle.sg_spec.specs.Tree.{Tree, numeral, here, param, add, neg, mul, div, power, sum_from, prod_from}
+use Rattle.sg_spec.specs.Tree.{Tree, numeral, here, add, neg, div}
 use Rattle.sg_spec.specs.Printing.{is_constant_tree, IsShort}
-use Rattle.sg_text.specs.declared.printing.ProductForm.{ProductForm}
 use Rattle.sg_text.specs.declared.printing.ProductForm.TheVariants.{Full, Binomial}
 use Rattle.sg_text.specs.PrintedText.{is_first, is_one, is_here, is_minus_here, body_form, written, left_of, added_text, plain}
 
@@ -67,6 +66,7 @@ pub short_left : (x o m j : Tree) → body_form (div (add (add x o) m) j) ≡ Bi
 short_left x o m j h s =
     let k = chosen ((is_one o && is_constant_tree x && is_minus_here m) && is_here j) h in
     let top = left_true (is_one o && is_constant_tree x && is_minus_here m) (is_here j) k in
-    let more = left_true (is_one o && is_constant_tree x) (is_minus_here m) top in
-    (((s, short-one o (left_true (is_one o) (is_constant_tree x) more)), short-minus_here m (right_true (is_one o && is_constant_tree x) (is_minus_here m) top)),
-     short-here j (right_true (is_one o && is_constant_tree x && is_minus_here m) (is_here j) k))
+    let more = left_true (is_one o && is_constant_tree x) (is_minus_here m) top in (
+      ((s, short-one o (left_true (is_one o) (is_constant_tree x) more)), short-minus_here m (right_true (is_one o && is_constant_tree x) (is_minus_here m) top)),
+      short-here j (right_true (is_one o && is_constant_tree x && is_minus_here m) (is_here j) k),
+    )

@@ -11,7 +11,7 @@
 --   plain, text_at      the bytes of a written tree, and those at a place of this level
 --   added_text          the bytes that follow the left operand of a sum
 --   printed             the text of a tree in these letters
-use Rattle.std.specs.Prelude.{◌==◌, ℕ, zero, suc, ◌≤◌, nat_lt, ℤ, pos, negsuc, unsigned_abs, Bool, true, false, not, cond, ◌&&◌, List, [], ◌∷◌, ◌++◌, get_or, codes}
+use Rattle.std.specs.Prelude.{◌==◌, ℕ, zero, suc, nat_lt, ℤ, pos, negsuc, unsigned_abs, Bool, true, false, cond, ◌&&◌, List, [], ◌∷◌, ◌++◌, get_or, codes}
 use Rattle.std.specs.Fmt.{decimal}
 use Rattle.sg_spec.specs.Tree.{Tree, numeral, here, param, add, neg, mul, div, power, sum_from, prod_from}
 use Rattle.sg_spec.specs.Syntax.{Spot, Placed, number, named, negated, added, subtracted, multiplied, divided, raised, sum_call, product_call, harmonic, harmonic_of_order, factorial, binomial, constant_power}

@@ -1,9 +1,10 @@
 //! The printed form of expressions.
-ghost use Rattle.std.specs.Prelude.{◌≡◌, ◌++◌, ◌∷◌, [], ◌<◌, ℕ, ℤ, List, false, get_or, IfOk, OnOk, decimal, unsigned_abs};
+ghost use Rattle.std.specs.Prelude.{◌≡◌, ◌++◌, ◌∷◌, [], ◌<◌, ℕ, ℤ, List, get_or, IfOk, OnOk, decimal, unsigned_abs};
 ghost use Rattle.sg_spec.specs.Syntax.{Placed};
 ghost use Rattle.sg_spec.specs.Tree.{Tree, add, div, sum_from, prod_from};
 ghost use Rattle.sg_spec.specs.Reading.{Bounds, Reads, IsRead};
-ghost use Rattle.sg_spec.specs.Printing.{AreNames, SparesBound, has_parameter, is_constant_tree, InForm, IsShort, KeepsBounds};
+ghost use Rattle.sg_spec.specs.Printing.{SparesBound, IsPrintable, is_constant_tree, IsShort, KeepsBounds, HasFewest, NoBlank};
+ghost use Rattle.sg_text.specs.Reads.{IsFree};
 ghost use Rattle.sg_text.specs.PrintedText.{next_bound, sign_of, is_one, is_numeral, is_here, is_minus_here, power_order, harmonic_order, is_falling, is_quotient, body_form, product_form, written, written_sum, left_of, level_of, is_below, text_at, added_text, limit_text, call_text, plain, printed};
 ghost use Rattle.sg_expr.specs.Tree.{tree_of};
 
@@ -154,7 +155,11 @@ fn power_order(e: &Expr) -> u128
 {
     match e {
         Expr::Here => 1,
-        Expr::Pow(x, r) => if is_here(x) && *r > 1 && *r < 33 { *r } else { 0 },
+        Expr::Pow(x, r) => if is_here(x) && *r > 1 && *r < 33 {
+            *r
+        } else {
+            0
+        },
         _ => 0,
     }
 }
@@ -193,7 +198,11 @@ fn product_form(from: i64, body: &Expr) -> ProductForm
     match body {
         Expr::Here => ProductForm::Factorial,
         Expr::Num(_) => ProductForm::Power,
-        Expr::Neg(x) => if is_quotient(x) { ProductForm::Power } else { ProductForm::Full },
+        Expr::Neg(x) => if is_quotient(x) {
+            ProductForm::Power
+        } else {
+            ProductForm::Full
+        },
         Expr::Div(x, y) => quotient_form(x, y),
         _ => ProductForm::Full,
     }
@@ -226,14 +235,18 @@ fn is_below(own: Level, wanted: Level) -> bool
 }
 
 /// The text of an expression in one or two letters: the first names the variable, the second the parameter, and bound names
-/// are j and i in turn. It has no blanks and the shorthands wherever the tree is exactly theirs. The error is want of memory.
+/// are j and i in turn. It has no blanks, no parentheses that could be left out, and the shorthands wherever the tree is
+/// exactly theirs. The error is want of memory.
 pub fn print(alloc: Global, e: &Expr, free: &[u8]) -> Result<Row<u8>, AllocError>
-    requires letters { AreNames free.now }
+    requires letters { IsFree free.now }
     requires apart { SparesBound free.now }
-    requires form { InForm (has_parameter free.now) false (tree_of e.now) }
+    requires form { IsPrintable free.now (tree_of e.now) }
     ensures text { IfOk result (λ w. w ≡ printed free.now (tree_of e.now)) }
     ensures reads_back { IfOk result (λ w. Reads w free.now (tree_of e.now)) }
+    ensures only { IfOk result (λ w. (f : Tree) → Reads w free.now f → f ≡ tree_of e.now) }
     ensures bounded { IfOk result (λ w. (bounds : Bounds) → KeepsBounds bounds w → IsRead bounds free.now w (tree_of e.now)) }
+    ensures fewest { IfOk result (λ w. HasFewest w free.now (tree_of e.now)) }
+    ensures no_blank { IfOk result (λ w. NoBlank w) }
 {
     let out = print_plain(alloc, e, free)?;
     Ok(out)
@@ -423,7 +436,13 @@ fn push_name(name: u8, out: &mut Row<u8>) -> Result<(), AllocError>
 
 // Writes a sum or a product in full.
 #[cycle(write)]
-fn write_call(word: &[u8], from: i64, body: &Expr, scope: Scope, out: &mut Row<u8>) -> Result<(), AllocError>
+fn write_call(
+    word: &[u8],
+    from: i64,
+    body: &Expr,
+    scope: Scope,
+    out: &mut Row<u8>,
+) -> Result<(), AllocError>
     ensures text { OnOk result (out.new ≡ out.old ++ (word.now ++ call_text scope.bound (sign_of from) (unsigned_abs from) scope.variable (plain (written scope.bound scope.parameter (next_bound scope.bound) (tree_of body.now))))) }
     ensures short { OnOk result (IsShort (tree_of body.now)) }
 {
@@ -440,4 +459,161 @@ fn push_head(word: &[u8], from: i64, scope: Scope, out: &mut Row<u8>) -> Result<
     push_all(out, &[b'(', scope.bound, b','])?;
     push_limit(out, from)?;
     push_all(out, &[b',', scope.variable, b','])
+}
+
+#[cfg(test)]
+mod tests {
+    use super::*;
+    use crate::{Bounds, ReadFault, read};
+    use std::test::Fail;
+
+    fn wide() -> Bounds {
+        Bounds {
+            bytes: 100_000,
+            parens: 1000,
+            numeral: i128::MAX,
+            exponent: u128::MAX,
+        }
+    }
+
+    // What is printed of what is read, or nothing where the text isn't read.
+    fn printed_again(alloc: Global, text: &[u8]) -> Result<Option<Row<u8>>, AllocError> {
+        match read(alloc, text, b"kn", &wide()) {
+            Ok(e) => Ok(Some(print(alloc, &e, b"kn")?)),
+            Err(ReadFault::Memory(e)) => Err(e),
+            Err(_) => Ok(None),
+        }
+    }
+
+    // The texts were written by hand by the rules of docs/printing.md.
+    #[test]
+    fn prints_what_is_read(rt: HostRuntime) -> Result<(), Fail> {
+        let cases: [(&str, &str); 30] = [
+            (" ( k +1)*H( k ,1)", "(k+1)*H(k)"),
+            ("((k))+(n*(2))", "k+n*2"),
+            ("(-k)+n", "-k+n"),
+            ("(-k)*n", "(-k)*n"),
+            ("-(k*n)", "-k*n"),
+            ("-(-k)", "-(-k)"),
+            ("k-(n+1)", "k-(n+1)"),
+            ("k+(-n)", "k-n"),
+            ("k-(-n)", "k-(-n)"),
+            ("k+(n-1)", "k+(n-1)"),
+            ("(k+n)-1", "k+n-1"),
+            ("k/(n*2)", "k/(n*2)"),
+            ("(k/n)*2", "k/n*2"),
+            ("k*(n/2)", "k*(n/2)"),
+            ("(k*n)^2", "(k*n)^2"),
+            ("(k^2)^3", "(k^2)^3"),
+            ("-(k^2)", "-k^2"),
+            ("007", "7"),
+            ("H(k,32)", "H(k,32)"),
+            ("H(k,33)", "sum(j,1,k,1/j^33)"),
+            ("sum(i,1,k,1/i^1)", "sum(j,1,k,1/j^1)"),
+            ("sum(x,-2,k,sum(y,1,x,y*n))", "sum(j,-2,k,sum(i,1,j,i*n))"),
+            ("prod(m,1,k,m)", "fact(k)"),
+            ("prod(m,2,k,m)", "prod(j,2,k,j)"),
+            ("prod(m,1,k,(2*n+1-m)/m)", "binom(2*n,k)"),
+            ("prod(m,1,k,(m+1-m)/m)", "prod(j,1,k,(j+1-j)/j)"),
+            ("prod(m,1,k,-1/2)", "pow(-1/2,k)"),
+            ("prod(m,1,k,(-1)/2)", "prod(j,1,k,(-1)/2)"),
+            ("1/(2*fact(k))", "1/(2*fact(k))"),
+            ("sum(j,1,k,binom(n,j)^2)", "sum(j,1,k,binom(n,j)^2)"),
+        ];
+        for (text, want) in cases {
+            let found = printed_again(rt.alloc(), text.as_bytes())?;
+            let same = match &found {
+                Some(w) => w.as_slice() == want.as_bytes(),
+                None => false,
+            };
+            assert!(rt; same, "{text}");
+        }
+        Ok(())
+    }
+
+    // Texts drawn by a linear congruential generator.
+    #[derive(Drop)]
+    struct Draw {
+        seed: u64,
+    }
+
+    impl Draw {
+        fn below(&mut self, n: u64) -> u64
+            requires { 0 < n }
+            ensures { result < n }
+        {
+            self.seed = self
+                .seed
+                .wrapping_mul(6_364_136_223_846_793_005)
+                .wrapping_add(1_442_695_040_888_963_407);
+            (self.seed >> 33) % n
+        }
+
+        // A text round another one; a bound name hides the variable.
+        fn around(&mut self, alloc: Global, text: &Row<u8>) -> Result<Row<u8>, AllocError> {
+            let (head, tail) = match self.below(14) {
+                0 => ("-(", ")"),
+                1 => ("(", ")^2"),
+                2 => ("(", ")/n"),
+                3 => ("(", ")/(k+1)"),
+                4 => ("k-(", ")"),
+                5 => ("(", ")-n*k"),
+                6 => ("7*(", ")"),
+                7 => ("(", ")*(1-n)"),
+                8 => ("sum(k,-1,k,", ")"),
+                9 => ("prod(k,1,k,", ")"),
+                10 => ("binom(", ",k)"),
+                11 => ("3/(", ")"),
+                12 => ("H(k,2)-(", ")"),
+                _ => ("(", ")+(-n)"),
+            };
+            let mut out = Row::new(alloc);
+            push_all(&mut out, head.as_bytes())?;
+            push_all(&mut out, text.as_slice())?;
+            push_all(&mut out, tail.as_bytes())?;
+            Ok(out)
+        }
+
+        // A text of at most this depth.
+        fn text(&mut self, alloc: Global, depth: u32) -> Result<Row<u8>, AllocError> {
+            let mut text = Row::new(alloc);
+            text.push(if self.below(2) == 0 { b'k' } else { b'2' })?;
+            for _ in 0..depth {
+                text = self.around(alloc, &text)?;
+            }
+            Ok(text)
+        }
+    }
+
+    // Whether the text of what is read reads as the same, or nothing where the text isn't read.
+    fn reads_back(alloc: Global, text: &[u8]) -> Result<Option<bool>, AllocError> {
+        match read(alloc, text, b"kn", &wide()) {
+            Ok(e) => {
+                let again = print(alloc, &e, b"kn")?;
+                match read(alloc, again.as_slice(), b"kn", &wide()) {
+                    Ok(f) => Ok(Some(e.same(&f))),
+                    Err(ReadFault::Memory(e)) => Err(e),
+                    Err(_) => Ok(Some(false)),
+                }
+            }
+            Err(ReadFault::Memory(e)) => Err(e),
+            Err(_) => Ok(None),
+        }
+    }
+
+    #[test]
+    fn drawn_texts_read_back(rt: HostRuntime) -> Result<(), Fail> {
+        let alloc = rt.alloc();
+        let mut draw = Draw { seed: 1 };
+        let mut read = 0u32;
+        for round in 0..600 {
+            let text = draw.text(alloc, 1 + round % 6)?;
+            if let Some(same) = reads_back(alloc, text.as_slice())? {
+                assert!(rt; same, "{:?}", text.as_slice());
+                read = read.saturating_add(1);
+            }
+        }
+        assert!(rt; read > 300, "{read} texts were read");
+        Ok(())
+    }
 }

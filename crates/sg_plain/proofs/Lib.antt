@@ -5,3 +5,6 @@ pub mod Wholes
 pub mod Canonical
 pub mod CommonDenominator
 pub mod Closing
+pub mod Slopes
+pub mod LinearTrees
+pub mod LinearSums

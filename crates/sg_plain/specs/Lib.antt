@@ -2,3 +2,4 @@ pub mod Evaluation
 pub mod Telescoping
 pub mod Terms
 pub mod CommonDenominator
+pub mod Linear

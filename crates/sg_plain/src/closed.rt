@@ -1,22 +1,24 @@
-ghost use Rattle.std.specs.Prelude.{[], false, IfOk, IfErr};
+ghost use Rattle.std.specs.Prelude.{◌≤◌, unsigned_abs, [], false, IfOk, IfErr, IfSome, IsSome};
 ghost use Rattle.sg_expr.specs.Tree.{tree_of};
 ghost use Rattle.sg_num.specs.Stopped.{KeepsWideStep};
+ghost use Rattle.sg_plain.specs.Linear.{IsMemory, IsLinear};
 ghost use Rattle.sg_spec.specs.Closed.{Closed};
-ghost use Rattle.sg_spec.specs.Plain.{IsPlain, IsCanonical};
+ghost use Rattle.sg_spec.specs.Limits.{degrees};
+ghost use Rattle.sg_spec.specs.Plain.{IsPlain, IsCanonical, weight};
 ghost use Rattle.sg_spec.specs.Printing.{InForm};
 
 use crate::coefficients::coefficients;
 use crate::common::over_common;
+use crate::linear::Linear;
+use crate::reading::linear;
 use crate::sums::summed;
 use crate::terms::canonical_tree;
 use sg_expr::Expr;
 use sg_num::Stop;
 use std::alloc::Global;
 
-/// The closed form of the sum of a plain polynomial from a on, by telescoping from the term of highest degree down. It is
-/// the canonical tree of a polynomial, in the variable that is the upper limit. The error is want of memory, or a step that
-/// doesn't fit 128 bits.
-pub fn closed_form(alloc: Global, f: &Expr, a: i64) -> Result<Expr, Stop>
+// By telescoping from the term of highest degree down.
+fn telescoped(alloc: Global, f: &Expr, a: i64) -> Result<Expr, Stop>
     requires { IsPlain (tree_of f.now) }
     ensures closed { IfOk result (λ h. Closed (tree_of f.now) [] a (tree_of h) a) }
     ensures canonical { IfOk result (λ h. IsCanonical (tree_of h)) }
@@ -28,4 +30,41 @@ pub fn closed_form(alloc: Global, f: &Expr, a: i64) -> Result<Expr, Stop>
     let all = over_common(alloc, q.as_slice())?;
     let h = canonical_tree(alloc, all.coefficients.as_slice(), all.denominator)?;
     Ok(h)
+}
+
+// The coefficients of f where they and a are small, and f is of degree at most one.
+fn small_linear(f: &Expr, a: i64) -> Option<Linear>
+    requires { IsPlain (tree_of f.now) }
+    ensures linear { IfSome result (λ l. IsLinear (tree_of f.now) l.constant l.slope) }
+    ensures limit { IsSome result → unsigned_abs a ≤ 64 }
+    ensures some { (degrees (tree_of f.now)).variable ≤ 1 → weight (tree_of f.now) ≤ 65536 → unsigned_abs a ≤ 64 → IsSome result }
+{
+    if a.unsigned_abs() > 64 {
+        return None;
+    }
+    linear(f)
+}
+
+/// The closed form of the sum of a plain polynomial from a on, as the canonical tree of a polynomial in the variable, which
+/// is the upper limit. It is found by telescoping from the term of highest degree down; of degree at most one, with small
+/// coefficients, in whole arithmetic, where no step is wide. The error is want of memory, or a step that doesn't fit 128
+/// bits.
+pub fn closed_form(alloc: Global, f: &Expr, a: i64) -> Result<Expr, Stop>
+    requires { IsPlain (tree_of f.now) }
+    ensures closed { IfOk result (λ h. Closed (tree_of f.now) [] a (tree_of h) a) }
+    ensures canonical { IfOk result (λ h. IsCanonical (tree_of h)) }
+    ensures form { IfOk result (λ h. InForm false false (tree_of h)) }
+    ensures wide { IfErr result KeepsWideStep }
+    ensures narrow { (degrees (tree_of f.now)).variable ≤ 1 → weight (tree_of f.now) ≤ 65536 → unsigned_abs a ≤ 64 → IfErr result IsMemory }
+{
+    match small_linear(f, a) {
+        Some(l) => {
+            let h = l.closed(alloc, a)?;
+            Ok(h)
+        }
+        None => {
+            let h = telescoped(alloc, f, a)?;
+            Ok(h)
+        }
+    }
 }

@@ -4,8 +4,11 @@
 mod closed;
 mod coefficients;
 mod common;
+mod linear;
 mod polynomial;
+mod reading;
 mod step;
+mod summing;
 mod sums;
 mod terms;
 mod whole;

@@ -1,6 +1,8 @@
 ghost use Rattle.std.specs.Prelude.{◌≡◌, ◌≢◌, pos, ◌<ℤ◌, ◌*ℤ◌, neg_ℤ, unsigned_abs, map, IfOk, IfErr};
 ghost use Rattle.sg_expr.specs.Tree.{tree_of};
+ghost use Rattle.sg_algebra.specs.Coefficients.{Each};
 ghost use Rattle.sg_num.specs.Stopped.{KeepsWideStep};
+ghost use Rattle.sg_plain.specs.Linear.{IsMemory, IsSmall};
 ghost use Rattle.sg_plain.specs.Terms.{term};
 ghost use Rattle.sg_spec.specs.Tree.{numeral, add, neg, div};
 ghost use Rattle.sg_spec.specs.Plain.{raised, monomial, joined, with_terms, numerator, leads_below_zero, canonical};
@@ -54,6 +56,7 @@ fn term(alloc: Global, c: i128, e: usize) -> Result<Expr, Stop>
     requires { c ≢ pos 0 }
     ensures tree { IfOk result (λ t. tree_of t ≡ term c e) }
     ensures wide { IfErr result KeepsWideStep }
+    ensures narrow { IsSmall c → IfErr result IsMemory }
 {
     if c > 0 {
         let t = monomial(alloc, c, e)?;
@@ -78,6 +81,7 @@ fn sum_of(alloc: Global, s: Expr, t: Expr) -> Result<Expr, AllocError>
 fn joined(alloc: Global, t: Expr, c: i128, e: usize) -> Result<Expr, Stop>
     ensures tree { IfOk result (λ s. tree_of s ≡ joined (tree_of t) c e) }
     ensures wide { IfErr result KeepsWideStep }
+    ensures narrow { IsSmall c → IfErr result IsMemory }
 {
     if c == 0 {
         return Ok(t);
@@ -91,6 +95,7 @@ fn joined(alloc: Global, t: Expr, c: i128, e: usize) -> Result<Expr, Stop>
 fn with_terms(alloc: Global, t: Expr, coefficients: &[i128]) -> Result<Expr, Stop>
     ensures tree { IfOk result (λ s. tree_of s ≡ with_terms (tree_of t) coefficients.now) }
     ensures wide { IfErr result KeepsWideStep }
+    ensures narrow { Each IsSmall coefficients.now → IfErr result IsMemory }
 {
     match coefficients.split_first() {
         None => Ok(t),
@@ -106,6 +111,7 @@ fn with_terms(alloc: Global, t: Expr, coefficients: &[i128]) -> Result<Expr, Sto
 fn numerator(alloc: Global, coefficients: &[i128]) -> Result<Expr, Stop>
     ensures tree { IfOk result (λ t. tree_of t ≡ numerator coefficients.now) }
     ensures wide { IfErr result KeepsWideStep }
+    ensures narrow { Each IsSmall coefficients.now → IfErr result IsMemory }
 {
     match coefficients.split_first() {
         None => Ok(Expr::Num(0)),
@@ -151,6 +157,7 @@ pub fn canonical_tree(alloc: Global, coefficients: &[i128], denominator: i128) -
     requires { pos 0 <ℤ denominator }
     ensures tree { IfOk result (λ t. tree_of t ≡ canonical coefficients.now (unsigned_abs denominator)) }
     ensures wide { IfErr result KeepsWideStep }
+    ensures narrow { Each IsSmall coefficients.now → IfErr result IsMemory }
 {
     if denominator == 1 {
         let t = numerator(alloc, coefficients)?;

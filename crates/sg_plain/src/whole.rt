@@ -1,5 +1,7 @@
 ghost use Rattle.std.specs.Prelude.{◌≡◌, ◌*ℤ◌, neg_ℤ, map, IfOk, IfErr};
+ghost use Rattle.sg_algebra.specs.Coefficients.{Each};
 ghost use Rattle.sg_num.specs.Stopped.{KeepsWideStep};
+ghost use Rattle.sg_plain.specs.Linear.{IsMemory, IsSmall};
 
 use crate::step::{difference, product};
 use sg_num::{Rat, Row, Stop};
@@ -11,7 +13,11 @@ use std::alloc::Global;
 pub fn opposite(a: i128) -> Result<i128, Stop>
     ensures value { IfOk result (λ r. r ≡ neg_ℤ a) }
     ensures wide { IfErr result KeepsWideStep }
+    ensures narrow { IsSmall a → IfErr result IsMemory }
 {
+    if a != i128::MIN {
+        return Ok(-a);
+    }
     let r = difference(Rat::whole(0), Rat::whole(a))?;
     Ok(r.num())
 }
@@ -29,6 +35,7 @@ pub fn whole_product(a: i128, b: i128) -> Result<i128, Stop>
 pub fn opposites(alloc: Global, list: &[i128]) -> Result<Row<i128>, Stop>
     ensures value { IfOk result (λ r. r ≡ map neg_ℤ list.now) }
     ensures wide { IfErr result KeepsWideStep }
+    ensures narrow { Each IsSmall list.now → IfErr result IsMemory }
 {
     let mut result = Row::new(alloc);
     for a in list {

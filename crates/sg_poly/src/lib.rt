@@ -3,6 +3,8 @@
 
 mod division;
 mod kernel;
+mod plane;
 mod poly;
 
+pub use plane::Poly2;
 pub use poly::Poly;

@@ -8,3 +8,6 @@ mod poly;
 
 pub use plane::Poly2;
 pub use poly::Poly;
+
+#[cfg(test)]
+mod tests;

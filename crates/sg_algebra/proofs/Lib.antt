@@ -38,3 +38,6 @@ pub mod Sums
 pub mod Polynomial
 pub mod Place
 pub mod Rows
+pub mod Tables
+pub mod Linear
+pub mod NullSpace

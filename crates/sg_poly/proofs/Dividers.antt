@@ -50,7 +50,7 @@ module _ {d : ℕ} where
   pub monic_some : (p : List (Value d)) → IsMonic p → ¬ (poly p ≡ zero_polynomial)
   monic_some p m e = value_one_ne d (sym (m.1.top) ∙ same_poly p [] e m.0)
 
-  constants : (a b : Value d) → a *ᵛ b ≡ one_value → constant a *ᵖ constant b ≡ one_polynomial
+  pub constants : (a b : Value d) → a *ᵛ b ≡ one_value → constant a *ᵖ constant b ≡ one_polynomial
   constants a b e = sym (poly-mul (a ∷ []) (b ∷ [])) ∙ poly_same (poly_mul (ValueR d) (a ∷ []) (b ∷ [])) (one_value ∷ []) go
     where
       go : (k : ℕ) → coefficient (poly_mul (ValueR d) (a ∷ []) (b ∷ [])) k ≡ coefficient (one_value ∷ []) k

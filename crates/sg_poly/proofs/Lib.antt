@@ -2,3 +2,4 @@ pub mod Joined
 pub mod Dividing
 pub mod Dividers
 pub mod Shifting
+pub mod Planar

@@ -3,6 +3,11 @@
 
 mod division;
 mod kernel;
+mod plane;
 mod poly;
 
+pub use plane::Poly2;
 pub use poly::Poly;
+
+#[cfg(test)]
+mod tests;

@@ -1,0 +1,49 @@
+-- Constants as fractions of polynomials.
+--   constant_reduced    a constant over 1 is reduced
+--   constant-zero, constant-one, constant-rational    what the constants 0, 1 and a fraction stand for
+use Rattle.std.proofs.Common.{◌≡◌, ℕ, zero, suc, ◌<◌, refl, sym, ◌∙◌, ap, ap₂, List, [], ◌∷◌, ℤ, arith}
+use Rattle.sg_algebra.proofs.Ring.{nat}
+use Rattle.sg_algebra.proofs.Coprime.{coprime_one}
+use Rattle.sg_algebra.proofs.Value.{Value, over_value, zero_value, one_value, ◌/ᵛ◌}
+use Rattle.sg_algebra.proofs.ValueField.{ValueR, value_quotient, value_product}
+use Rattle.sg_algebra.proofs.OverValue.{over_value-self}
+use Rattle.sg_algebra.proofs.Embedding.{constant_value, constant_valueH, constant_value-nat, constant_value-whole, numeral_ne}
+use Rattle.sg_algebra.proofs.Rational.{whole_value, rational_value}
+use Rattle.sg_algebra.proofs.Polynomial.{PolynomialR, poly, poly_cong, poly_same, coefficient, zero_polynomial, one_polynomial, polynomial_one_ne}
+use Rattle.sg_poly.specs.Divisors.{IsMonic}
+use Rattle.sg_ratfun.specs.Reduced.{IsReduced}
+use Rattle.sg_ratfun.proofs.Monics.{monic_cong}
+use Rattle.sg_ratfun.proofs.Quotients.{over_zero, over_equal}
+
+module _ {d : ℕ} where
+  one_monic : IsMonic (one_value {d = d} ∷ [])
+  one_monic = (0, record { top = refl; ends = past })
+    where
+      past : (i : ℕ) → 0 < i → coefficient (one_value {d = d} ∷ []) i ≡ zero_value
+      past zero l = absurd (omega arith)
+      past (suc i) l = refl
+
+  pub constant_reduced : (n m : List (Value d)) → poly m ≡ one_polynomial → IsReduced n m
+  constant_reduced n m e = record { coprime = rw e (coprime_one (PolynomialR d) (poly n)); monic = monic_cong (one_value ∷ []) m (sym e) one_monic }
+
+  pub constant_equal : (n m : List (Value d)) (c : Value d) → poly n ≡ poly (c ∷ []) → poly m ≡ one_polynomial → over_value n m ≡ over_value (c ∷ []) (one_value ∷ [])
+  constant_equal n m c e h = over_equal n m (c ∷ []) (one_value ∷ []) (λ z. polynomial_one_ne (sym h ∙ z)) e h
+
+  no_constant : poly (zero_value {d = d} ∷ []) ≡ zero_polynomial
+  no_constant = poly_same (zero_value ∷ []) [] go
+    where
+      go : (i : ℕ) → coefficient (zero_value {d = d} ∷ []) i ≡ coefficient [] i
+      go zero = refl
+      go (suc i) = refl
+
+  pub constant-zero : (c : Value d) → c ≡ zero_value → over_value (c ∷ []) (one_value ∷ []) ≡ zero_value
+  constant-zero c e = rw e (over_zero (zero_value ∷ []) (one_value ∷ []) polynomial_one_ne no_constant)
+
+  pub constant-one : (c : Value d) → c ≡ one_value → over_value (c ∷ []) (one_value ∷ []) ≡ one_value
+  constant-one c e = rw e (over_value-self d (one_value ∷ []) (λ z. polynomial_one_ne (poly_cong z)))
+
+  pub constant-rational : (c : Value d) (n : ℤ) (m : ℕ) → 0 < m → c ≡ rational_value d n m → over_value (c ∷ []) (one_value ∷ []) ≡ rational_value (suc d) n m
+  constant-rational c n m h e = rw e (
+      value_quotient (constant_value d (whole_value d n)) (constant_value d (nat (ValueR d) m)) (constant_value d (rational_value d n m)) (λ z. numeral_ne (suc d) m h (sym (constant_value-nat d m) ∙ z))
+      (sym ((constant_valueH d).on-mul (rational_value d n m) (nat (ValueR d) m)) ∙ ap (constant_value d) (value_product (whole_value d n) (nat (ValueR d) m) (numeral_ne d m h)))
+      ∙ ap₂ ◌/ᵛ◌ (constant_value-whole d n) (constant_value-nat d m))

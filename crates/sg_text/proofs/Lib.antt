@@ -15,3 +15,4 @@ pub mod Within
 pub mod Exclusive
 pub mod Depth
 pub mod Outcome
+pub mod Balance

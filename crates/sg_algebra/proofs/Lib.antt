@@ -36,3 +36,5 @@ pub mod Embedding
 pub mod Data
 pub mod Sums
 pub mod Polynomial
+pub mod Place
+pub mod Rows

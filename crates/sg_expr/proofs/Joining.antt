@@ -1,10 +1,10 @@
 -- Lists of trees without repeats.
 --   joined_append    two lists are joined one after the other
 --   has_tree_map     a tree is known where an expression of the list has it
-use Rattle.std.proofs.Common.{◌≡◌, refl, sym, ap, ◌∙◌, Bool, true, false, cond, List, [], ◌∷◌, ◌++◌, ◌||◌, map, append-nil}
+use Rattle.std.proofs.Common.{◌≡◌, refl, ap, ◌∙◌, Bool, true, false, cond, List, [], ◌∷◌, ◌++◌, ◌||◌, map}
 use Rattle.std.specs.List.{list_any}
 use Rattle.sg_spec.specs.Tree.{Tree}
-use Rattle.sg_spec.specs.Generators.{joined, has_tree, same_tree, concatenated}
+use Rattle.sg_spec.specs.Generators.{joined, has_tree, same_tree}
 use Rattle.sg_expr.specs.declared.tree.Expr.{Expr}
 use Rattle.sg_expr.specs.Tree.{tree_of}
 

@@ -1,7 +1,7 @@
 -- The value of an expression whose parameter is moved on.
 --   folded-same        folds of terms that agree are equal
 --   val-substituted    its value at n is that of the expression at n + i
-use Rattle.std.proofs.Common.{◌≡◌, refl, sym, ap, ◌∙◌, ℕ, zero, suc, ℤ, pos, ◌+ℤ◌, ◌*ℤ◌, Option, Some, None, arith}
+use Rattle.std.proofs.Common.{◌≡◌, refl, ap, ◌∙◌, ℕ, zero, suc, ℤ, pos, ◌+ℤ◌, ◌*ℤ◌, Option, Some, arith}
 use Rattle.std.proofs.lemmas.Int.{ints}
 use Rattle.sg_spec.specs.Fraction.{Fraction, whole, plus}
 use Rattle.sg_spec.specs.Tree.{Tree, numeral, here, param, add, neg, mul, div, power, sum_from, prod_from}

@@ -1,3 +1,4 @@
 pub mod Signs
 pub mod Terms
 pub mod Numbers
+pub mod Probed

@@ -1,3 +1,4 @@
 pub mod Value
 pub mod Steps
 pub mod Stopped
+pub mod Probe

@@ -1,4 +1,5 @@
-ghost use Rattle.std.specs.Prelude.{◌≡◌, ◌<◌, [], ◌∷◌, ◌++◌, ◌==◌, length, OnOk, OnErr, slice_index_or};
+ghost use Rattle.std.specs.List.{remove};
+ghost use Rattle.std.specs.Prelude.{◌≡◌, ◌<◌, [], ◌∷◌, ◌++◌, ◌==◌, length, take, reverse, OnOk, OnErr, slice_index_or};
 
 use std::alloc::{AllocError, Global};
 use std::marker::Model;
@@ -34,6 +35,29 @@ impl<T: Drop> Row<T> {
     {
         self.items.push(item)?;
         Ok(())
+    }
+
+    /// Takes out the item at place `i`, counted from 0.
+    pub fn remove(&mut self, i: usize) -> T
+        requires { i < length self.old }
+        ensures new { self.new ≡ remove self.old i }
+        ensures item { result ≡ slice_index_or self.old i result }
+    {
+        self.items.remove(i)
+    }
+
+    /// Keeps the first `n` items; all where there are no more.
+    pub fn truncate(&mut self, n: usize)
+        ensures { self.new ≡ take n self.old }
+    {
+        self.items.truncate(n);
+    }
+
+    /// Turns the order of the items round.
+    pub fn reverse(&mut self)
+        ensures { self.new ≡ reverse self.old }
+    {
+        self.items.reverse();
     }
 
     /// How many items there are.

@@ -2,10 +2,10 @@
 --   value_at-past      past the end of a list there is the zero polynomial
 --   value_at-drop      one coefficient, and x times the rest
 --   value_at-push      one more coefficient at the end
-use Rattle.std.proofs.Common.{◌≡◌, ℕ, zero, suc, ◌+◌, ◌≤◌, ◌<◌, List, [], ◌∷◌, ◌++◌, length, drop, ℤ, pos, negsuc, refl, sym, ap, ap₂, ◌∙◌, arith, add-one}
-use Rattle.sg_algebra.proofs.Ring.{pow, nat}
+use Rattle.std.proofs.Common.{◌≡◌, ℕ, ◌+◌, ◌≤◌, List, [], ◌∷◌, ◌++◌, length, drop, ℤ, pos, negsuc, refl, sym, ap, ap₂, ◌∙◌, arith, add-one}
+use Rattle.sg_algebra.proofs.Ring.{pow}
 use Rattle.sg_algebra.proofs.Solver.{ring, by, scale, reads}
-use Rattle.sg_algebra.proofs.Value.{Value, ◌+ᵛ◌, ◌-ᵛ◌, ◌*ᵛ◌, neg_value, zero_value, one_value}
+use Rattle.sg_algebra.proofs.Value.{Value, ◌+ᵛ◌, ◌*ᵛ◌, neg_value, zero_value, one_value}
 use Rattle.sg_algebra.proofs.ValueField.{ValueR}
 use Rattle.sg_algebra.proofs.Rational.{whole_value}
 use Rattle.sg_num.specs.Value.{fraction, number}
@@ -49,7 +49,7 @@ pub multiple-next : (p q result new : List Rat) (i : ℕ) (c a b more next : Rat
     → value_at new x +ᵛ pow (ValueR 0) x (i + 1) *ᵛ (value_at (drop (i + 1) p) x +ᵛ number c *ᵛ value_at (drop (i + 1) q) x) ≡ T
 multiple-next p q result new i c a b more next x T is size inv hp hq hm hn =
     let pushed : value_at new x ≡ value_at result x +ᵛ pow (ValueR 0) x i *ᵛ number next =
-        ap (λ l. value_at l x) is ∙ value_at-push result next x ∙ ap (λ (n : ℕ). value_at result x +ᵛ pow (ValueR 0) x n *ᵛ number next) size in
+    ap (λ l. value_at l x) is ∙ value_at-push result next x ∙ ap (λ (n : ℕ). value_at result x +ᵛ pow (ValueR 0) x n *ᵛ number next) size in
     rw (pushed, pow-next x i)
     (multiple-step x (value_at result x) (pow (ValueR 0) x i) (value_at (drop i p) x) (value_at (drop i q) x) (number c) (value_at (drop (i + 1) p) x) (value_at (drop (i + 1) q) x) (number a) (number b) (number more) (number next) T inv hp hq hm hn)
 

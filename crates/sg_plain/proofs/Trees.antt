@@ -1,14 +1,13 @@
 -- Values of plain polynomials.
 --   plain-value     a plain polynomial has a value everywhere
 --   worth-add, -neg, -mul, -pow     values of trees from those of their coefficients, which the code lends as slices
-use Rattle.std.proofs.Common.{◌≡◌, ℕ, zero, ◌<◌, ℤ, pos, Option, Some, None, List, refl, sym, ap, ap₂, subst, ◌∙◌}
+use Rattle.std.proofs.Common.{◌≡◌, ℕ, zero, ℤ, pos, List, sym, ap, ap₂, ◌∙◌}
 use Rattle.sg_algebra.proofs.Ring.{pow}
 use Rattle.sg_algebra.proofs.Rational.{whole_value}
 use Rattle.sg_algebra.proofs.Value.{Value, ◌+ᵛ◌, ◌*ᵛ◌, neg_value, one_value}
 use Rattle.sg_algebra.proofs.ValueField.{ValueR}
 use Rattle.sg_num.specs.declared.rat.Rat.{Rat}
 use Rattle.sg_plain.specs.Evaluation.{value_at}
-use Rattle.sg_spec.specs.Fraction.{Fraction}
 use Rattle.sg_spec.specs.Plain.{IsPlain}
 use Rattle.sg_spec.specs.Tree.{Tree, numeral, here, param, add, neg, mul, div, power, sum_from, prod_from}
 use Rattle.sg_spec.specs.Value.{val}

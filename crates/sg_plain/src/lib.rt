@@ -4,3 +4,4 @@
 mod coefficients;
 mod polynomial;
 mod step;
+mod sums;

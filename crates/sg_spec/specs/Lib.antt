@@ -10,3 +10,5 @@ pub mod Closed
 pub mod Limits
 pub mod Plain
 pub mod Parameter
+pub mod Steps
+pub mod Printing

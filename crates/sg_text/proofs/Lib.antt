@@ -16,3 +16,8 @@ pub mod Exclusive
 pub mod Depth
 pub mod Outcome
 pub mod Balance
+pub mod PrintSteps
+pub mod PrintMeanings
+pub mod PrintCalls
+pub mod PrintReads
+pub mod PrintBounds

@@ -10,13 +10,13 @@ use Rattle.sg_spec.specs.Syntax.{Spot, Placed, number, named, negated, added, su
 use Rattle.sg_spec.specs.Reading.{is_parameter, is_divisor, tree_in, Kind, numeral_fault, exponent_fault, unbound, form, Limits, fault_unless, faults}
 use Rattle.sg_text.proofs.Printed.{at_spot, Sum, Product, Factor, Atom, Means, MeansDivisor, sum-add, sum-sub, sum-neg, product-mul, product-div, factor-power, atom-number, atom-name}
 
-both_empty : {A : Type 0} (a b : List A) → a ≡ [] → b ≡ [] → a ++ b ≡ []
+pub both_empty : {A : Type 0} (a b : List A) → a ≡ [] → b ≡ [] → a ++ b ≡ []
 both_empty a b h k = ap (λ q. q ++ b) h ∙ k
 
-no_fault_if : (t : Bool) (kind : Kind) (place : ℕ) → t ≡ true → fault_unless t kind place ≡ []
+pub no_fault_if : (t : Bool) (kind : Kind) (place : ℕ) → t ≡ true → fault_unless t kind place ≡ []
 no_fault_if t kind place h = ap (λ q. fault_unless q kind place) h
 
-same_letter : (v : ℕ) → (v == v) ≡ true
+pub same_letter : (v : ℕ) → (v == v) ≡ true
 same_letter v = grind (arith, nat_tests)
 
 module _ (limits : Limits) (in_product : Bool) (names : List ℕ) where

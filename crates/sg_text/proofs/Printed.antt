@@ -28,19 +28,19 @@ module _ (G : Placed → Type 0) where
   ends_nothing : (x : State) → G (top_tree x.trees) → Ends G [] [] x
   ends_nothing x g = (x, none_left, g)
 
-  ends_byte : (low more b : ℕ) (parts : List Symbol) (w : List ℕ) (x : State) → low ≤ b → b ≤ low + more → Ends G parts w (after_byte b x) → Ends G (span low more ∷ parts) (b ∷ w) x
+  pub ends_byte : (low more b : ℕ) (parts : List Symbol) (w : List ℕ) (x : State) → low ≤ b → b ≤ low + more → Ends G parts w (after_byte b x) → Ends G (span low more ∷ parts) (b ∷ w) x
   ends_byte low more b parts w x l h (y, s, g) = (y, eats b l h s, g)
 
-  ends_this : (b : ℕ) (parts : List Symbol) (w : List ℕ) (x : State) → Ends G parts w (after_byte b x) → Ends G (span b 0 ∷ parts) (b ∷ w) x
+  pub ends_this : (b : ℕ) (parts : List Symbol) (w : List ℕ) (x : State) → Ends G parts w (after_byte b x) → Ends G (span b 0 ∷ parts) (b ∷ w) x
   ends_this b parts w x e = ends_byte b 0 b parts w x (omega arith) (omega arith) e
 
-  ends_act : (a : Action) (parts : List Symbol) (w : List ℕ) (x : State) → Ends G parts w (after_action a x) → Ends G (act a ∷ parts) w x
+  pub ends_act : (a : Action) (parts : List Symbol) (w : List ℕ) (x : State) → Ends G parts w (after_action a x) → Ends G (act a ∷ parts) w x
   ends_act a parts w x (y, s, g) = (y, acts s, g)
 
-  ends_way : (part : Symbol) (way parts : List Symbol) (w : List ℕ) (x : State) → is_act part ≡ false → IsOneOf way (rules part) → Ends G (way ++ parts) w x → Ends G (part ∷ parts) w x
+  pub ends_way : (part : Symbol) (way parts : List Symbol) (w : List ℕ) (x : State) → is_act part ≡ false → IsOneOf way (rules part) → Ends G (way ++ parts) w x → Ends G (part ∷ parts) w x
   ends_way part way parts w x h i (y, s, g) = (y, opens_by way h i s, g)
 
-  ends_blanks : (parts : List Symbol) (w : List ℕ) (x : State) → Ends G parts w x → Ends G (blanks ∷ parts) w x
+  pub ends_blanks : (parts : List Symbol) (w : List ℕ) (x : State) → Ends G parts w x → Ends G (blanks ∷ parts) w x
   ends_blanks parts w x e = ends_way blanks [] parts w x refl (later first) e
 
   -- from here on the part spells these bytes and then goes on with what is left
@@ -83,7 +83,7 @@ module _ (G : Placed → Type 0) where
   whole_term w a parts more p l marks numbers trees f =
       a parts more p l marks numbers trees (λ q k t h. ends_way more_factors [] parts more (reading q k marks numbers (t ∷ trees)) refl (later (later first)) (f q k t h))
 
-  whole_sum : {P : Placed → Type 0} (w : List ℕ) → Sum P w → Leaves P expr [] w
+  pub whole_sum : {P : Placed → Type 0} (w : List ℕ) → Sum P w → Leaves P expr [] w
   whole_sum w a parts more p l marks numbers trees f =
       a parts more p l marks numbers trees (λ q k t h. ends_way more_terms [] parts more (reading q k marks numbers (t ∷ trees)) refl (later (later first)) (f q k t h))
 

@@ -8,3 +8,5 @@ pub mod Scopes
 pub mod Limited
 pub mod Fits
 pub mod Reads
+pub mod PrintedText
+pub mod RationalText

@@ -1,4 +1,4 @@
-//! The language of texts: which texts read as which expressions, and the reader.
+//! The language of texts: which texts read as which expressions, the reader and the printer.
 #![tactic(auto)]
 
 mod bounds;
@@ -9,6 +9,8 @@ mod fault;
 mod found;
 mod machine;
 mod node;
+mod printing;
+mod rational;
 mod reader;
 mod scope;
 mod symbol;
@@ -16,4 +18,6 @@ mod ways;
 
 pub use bounds::Bounds;
 pub use fault::ReadFault;
+pub use printing::print;
+pub use rational::print_rat;
 pub use reader::read;

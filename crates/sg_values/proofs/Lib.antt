@@ -2,3 +2,4 @@ pub mod Fractions
 pub mod Values
 pub mod Totals
 pub mod Worth
+pub mod Results

@@ -1,10 +1,9 @@
-use Rattle.std.proofs.Common.{ℤ, pos, FitsSigned, Some, rules, sym}
+use Rattle.std.proofs.Common.{FitsSigned, Some, rules, sym}
 use Rattle.std.specs.Int.{w128}
 use Rattle.std.proofs.lemmas.Int.{to_z-of_z}
 use Rattle.sg_algebra.proofs.Rational.{whole_value}
 use Rattle.sg_expr.specs.Tree.{tree_of}
 use Rattle.sg_spec.specs.Fraction.{whole}
-use Rattle.sg_spec.specs.Plain.{IsPlain}
 use Rattle.sg_plain.specs.Evaluation.{value_at}
 use Rattle.sg_plain.proofs.Trees.{worth-add, worth-mul, worth-neg, worth-pow, worth-unexpanded}
 use Rattle.sg_values.proofs.Worth.{worth-whole, worth_cong}

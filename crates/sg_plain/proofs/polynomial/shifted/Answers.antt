@@ -1,6 +1,5 @@
-use Rattle.std.proofs.Common.{ℕ, ◌+◌, ◌≡◌, ◌∷◌, ◌++◌, [], List, length, take, ap, ◌∙◌, arith, suc}
+use Rattle.std.proofs.Common.{◌≡◌, ◌∷◌, ◌++◌, [], length, ap, ◌∙◌, arith, suc}
 use Rattle.std.proofs.lemmas.List.{take_all}
-use Rattle.sg_num.specs.declared.rat.Rat.{Rat}
 use Rattle.sg_plain.proofs.Lists.{shifted-value}
 use Rattle.sg_plain.proofs.polynomial.shifted.Goals as goal
 

@@ -1,6 +1,4 @@
-use Rattle.std.proofs.Common.{rules, ◌≡◌, ap, sym, ◌∙◌, map}
 use Rattle.std.proofs.lemmas.List.{map-append}
-use Rattle.sg_expr.specs.Tree.{tree_of}
 use Rattle.sg_expr.proofs.Joining.{has_tree_map}
 use Rattle.sg_expr.proofs.tree.Expr.join.Goals as goal
 

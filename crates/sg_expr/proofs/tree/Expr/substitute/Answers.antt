@@ -1,4 +1,4 @@
-use Rattle.std.proofs.Common.{ap, ◌∙◌, pos, ◌+ℤ◌}
+use Rattle.std.proofs.Common.{ap, ◌∙◌}
 use Rattle.sg_spec.specs.Value.{val}
 use Rattle.sg_expr.specs.Tree.{tree_of}
 use Rattle.sg_expr.proofs.Substitution.{val-substituted}

@@ -1,0 +1,4 @@
+pub mod Joined
+pub mod Dividing
+pub mod Dividers
+pub mod Shifting

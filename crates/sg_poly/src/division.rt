@@ -1,0 +1,199 @@
+ghost use Rattle.std.specs.Prelude.{◌≡◌, ℕ, suc, ◌+◌, ◌-◌, ◌<◌, ◌≤◌, [], ◌∷◌, length, map, drop, reverse, IfOk, IfErr, ◌↔◌, pos, ℤ};
+ghost use Rattle.sg_algebra.proofs.Value.{◌+ᵛ◌, ◌-ᵛ◌, ◌*ᵛ◌, ◌/ᵛ◌, zero_value, one_value, inv_value};
+ghost use Rattle.sg_algebra.proofs.ValueField.{ValueR};
+ghost use Rattle.sg_algebra.proofs.Rational.{whole_value};
+ghost use Rattle.sg_algebra.proofs.Shift.{moved};
+ghost use Rattle.sg_algebra.proofs.Polynomial.{Polynomial, poly, coefficient, ◌+ᵖ◌, ◌*ᵖ◌, zero_polynomial, constant, EndsNonzero};
+ghost use Rattle.sg_num.specs.Stopped.{KeepsWideStep};
+ghost use Rattle.sg_poly.specs.Divisors.{◌∣ᵖ◌, IsMonic, IsGcd};
+
+use crate::poly::Poly;
+use sg_num::{Field, Rat, Row, Stop};
+use std::alloc::Global;
+
+// Copies of `n` coefficients, from the one at `from` on.
+fn copied<F: Field>(alloc: Global, p: &[F], from: usize, n: usize) -> Result<Row<F>, Stop>
+    requires { from + n ≡ length p.now }
+    ensures size { IfOk result (λ r. length r ≡ n) }
+    ensures value { IfOk result (λ r. poly (map F.val r) ≡ poly (map F.val (drop from p.now))) }
+    ensures wide { IfErr result KeepsWideStep }
+{
+    let mut row = Row::new(alloc);
+    for i in 0..n {
+        row.push(p[from + i].copy(alloc)?)?;
+    }
+    Ok(row)
+}
+
+// The coefficient at `k` of `a` and then `rest`.
+fn behind<'a, F: Field>(a: &'a F, rest: &'a [F], k: usize) -> &'a F
+    requires { k ≤ length rest.now }
+    ensures { F.val result.now ≡ coefficient (F.val a.now ∷ map F.val rest.now) k }
+{
+    if k == 0 { a } else { &rest[k - 1] }
+}
+
+// `a` and then `rest`, less `t` times `w`, below the last coefficient of `w`.
+fn reduced<F: Field>(alloc: Global, a: &F, rest: &[F], t: &F, w: &[F]) -> Result<Row<F>, Stop>
+    requires { length w.now ≡ suc (length rest.now) }
+    ensures size { IfOk result (λ r. length r ≡ length rest.now) }
+    ensures value { IfOk result (λ r. (k : ℕ) → k < length rest.now → coefficient (map F.val r) k ≡ coefficient (F.val a.now ∷ map F.val rest.now) k -ᵛ F.val t.now *ᵛ coefficient (map F.val w.now) k) }
+    ensures wide { IfErr result KeepsWideStep }
+{
+    let mut row = Row::new(alloc);
+    for i in 0..rest.len() {
+        let c = behind(a, rest, i).sub(alloc, &t.mul(alloc, &w[i])?)?;
+        row.push(c)?;
+    }
+    Ok(row)
+}
+
+// A quotient and a rest.
+#[derive(Drop)]
+struct Parts<F: Field> {
+    quotient: Row<F>,
+    rest: Row<F>,
+}
+
+// The division of a row that is at least as long as the divisor: from the last coefficients on, one quotient's coefficient
+// at a time.
+fn divided_long<F: Field>(alloc: Global, p: &[F], w: &[F]) -> Result<Parts<F>, Stop>
+    requires ends { EndsNonzero (map F.val w.now) }
+    requires some { 0 < length w.now }
+    requires long { length w.now ≤ length p.now }
+    ensures value { IfOk result (λ r. poly (map F.val p.now) ≡ poly (map F.val r.quotient) *ᵖ poly (map F.val w.now) +ᵖ poly (map F.val r.rest)) }
+    ensures size { IfOk result (λ r. length r.rest < length w.now) }
+    ensures wide { IfErr result KeepsWideStep }
+{
+    let degree = w.len() - 1;
+    let mut quotient = Row::new(alloc);
+    let mut i = p.len() - degree;
+    let mut rest = copied(alloc, p, i, degree)?;
+    while i > 0 {
+        i -= 1;
+        let a = &p[i];
+        let t = behind(a, rest.as_slice(), degree).div(alloc, &w[degree])?;
+        rest = reduced(alloc, a, rest.as_slice(), &t, w)?;
+        quotient.push(t)?;
+    }
+    quotient.reverse();
+    Ok(Parts { quotient, rest })
+}
+
+// The division of rows.
+fn divided<F: Field>(alloc: Global, p: &[F], w: &[F]) -> Result<Parts<F>, Stop>
+    requires ends { EndsNonzero (map F.val w.now) }
+    requires some { 0 < length w.now }
+    ensures value { IfOk result (λ r. poly (map F.val p.now) ≡ poly (map F.val r.quotient) *ᵖ poly (map F.val w.now) +ᵖ poly (map F.val r.rest)) }
+    ensures size { IfOk result (λ r. length r.rest < length w.now) }
+    ensures wide { IfErr result KeepsWideStep }
+{
+    if p.len() < w.len() {
+        let rest = copied(alloc, p, 0, p.len())?;
+        let quotient = Row::new(alloc);
+        return Ok(Parts { quotient, rest });
+    }
+    divided_long(alloc, p, w)
+}
+
+// The polynomial over its last coefficient.
+fn over_last<F: Field>(alloc: Global, p: &Poly<F>) -> Result<Poly<F>, Stop>
+    requires { ¬ (poly (map F.val p.now) ≡ zero_polynomial) }
+    ensures value { IfOk result (λ r. poly (map F.val r) ≡ constant (inv_value (coefficient (map F.val p.now) (length p.now - 1))) *ᵖ poly (map F.val p.now)) }
+    ensures shorter { IfOk result (λ r. length r ≤ length p.now) }
+    ensures last { IfOk result (λ _. ¬ (coefficient (map F.val p.now) (length p.now - 1) ≡ zero_value)) }
+    ensures wide { IfErr result KeepsWideStep }
+{
+    let list = p.coeffs();
+    let lead = &list[list.len() - 1];
+    let c = F::one(alloc)?.div(alloc, lead)?;
+    let r = p.scale(alloc, &c)?;
+    Ok(r)
+}
+
+// A coefficient of a + (k + m) r.
+fn raised_at<F: Field>(alloc: Global, a: &F, m: &F, r: &[F], i: usize) -> Result<F, Stop>
+    requires { i < length r.now }
+    ensures value { IfOk result (λ x. F.val x ≡ coefficient (F.val a.now ∷ map F.val r.now) i +ᵛ F.val m.now *ᵛ coefficient (map F.val r.now) i) }
+    ensures wide { IfErr result KeepsWideStep }
+{
+    let x = behind(a, r, i).add(alloc, &m.mul(alloc, &r[i])?)?;
+    Ok(x)
+}
+
+// The row a + (k + m) r.
+fn raised<F: Field>(alloc: Global, a: &F, m: &F, r: &[F]) -> Result<Row<F>, Stop>
+    ensures value { IfOk result (λ s. poly (map F.val s) ≡ constant (F.val a.now) +ᵖ poly (F.val m.now ∷ one_value ∷ []) *ᵖ poly (map F.val r.now)) }
+    ensures wide { IfErr result KeepsWideStep }
+{
+    let mut row = Row::new(alloc);
+    for i in 0..r.len() {
+        row.push(raised_at(alloc, a, m, r, i)?)?;
+    }
+    row.push(behind(a, r, r.len()).copy(alloc)?)?;
+    Ok(row)
+}
+
+impl<F: Field> Poly<F> {
+    /// The quotient and the rest of the division by `other`, which isn't 0; the rest has a lower degree than `other`, or is 0.
+    pub fn div_rem(&self, alloc: Global, other: &Poly<F>) -> Result<(Poly<F>, Poly<F>), Stop>
+        requires { ¬ (poly (map F.val other.now) ≡ zero_polynomial) }
+        ensures value { IfOk result (λ r. poly (map F.val self.now) ≡ poly (map F.val r.0) *ᵖ poly (map F.val other.now) +ᵖ poly (map F.val r.1)) }
+        ensures smaller { IfOk result (λ r. length r.1 < length other.now) }
+        ensures wide { IfErr result KeepsWideStep }
+    {
+        let parts = divided(alloc, self.coeffs(), other.coeffs())?;
+        let quotient = Poly::trimmed(parts.quotient);
+        let rest = Poly::trimmed(parts.rest);
+        Ok((quotient, rest))
+    }
+
+    /// The polynomial, which isn't 0, over its last coefficient.
+    pub fn monic(&self, alloc: Global) -> Result<Poly<F>, Stop>
+        requires { ¬ (poly (map F.val self.now) ≡ zero_polynomial) }
+        ensures value { IfOk result (λ r. poly (map F.val r) ≡ constant (inv_value (coefficient (map F.val self.now) (length self.now - 1))) *ᵖ poly (map F.val self.now)) }
+        ensures monic { IfOk result (λ r. IsMonic (map F.val r)) }
+        ensures divisors { IfOk result (λ r. (c : Polynomial F.vars) → (c ∣ᵖ poly (map F.val r)) ↔ (c ∣ᵖ poly (map F.val self.now))) }
+        ensures some { IfOk result (λ r. ¬ (poly (map F.val r) ≡ zero_polynomial)) }
+        ensures shorter { IfOk result (λ r. length r ≤ length self.now) }
+        ensures wide { IfErr result KeepsWideStep }
+    {
+        let r = over_last(alloc, self)?;
+        Ok(r)
+    }
+
+    /// The monic greatest common divisor of the two, of which not both are 0: by Euclid's divisions, each by a monic divisor.
+    pub fn gcd(&self, alloc: Global, other: &Poly<F>) -> Result<Poly<F>, Stop>
+        requires { ¬ ((poly (map F.val self.now) ≡ zero_polynomial) × (poly (map F.val other.now) ≡ zero_polynomial)) }
+        ensures divisor { IfOk result (λ r. IsGcd (poly (map F.val r)) (poly (map F.val self.now)) (poly (map F.val other.now))) }
+        ensures monic { IfOk result (λ r. IsMonic (map F.val r)) }
+        ensures wide { IfErr result KeepsWideStep }
+    {
+        let mut a = self.copy(alloc)?;
+        let mut b = other.copy(alloc)?;
+        while !b.is_zero() {
+            let divisor = b.monic(alloc)?;
+            let (quotient, rest) = a.div_rem(alloc, &divisor)?;
+            a = divisor;
+            b = rest;
+        }
+        let r = a.monic(alloc)?;
+        Ok(r)
+    }
+
+    /// The polynomial at k + m, by Horner's rule.
+    pub fn shift_by(&self, alloc: Global, m: i128) -> Result<Poly<F>, Stop>
+        ensures value { IfOk result (λ r. poly (map F.val r) ≡ poly (moved (ValueR F.vars) (whole_value F.vars m) (map F.val self.now))) }
+        ensures wide { IfErr result KeepsWideStep }
+    {
+        let p = self.coeffs();
+        let by = F::from_rat(alloc, Rat::whole(m))?;
+        let mut row = Row::new(alloc);
+        let mut i = p.len();
+        while i > 0 {
+            i -= 1;
+            row = raised(alloc, &p[i], &by, row.as_slice())?;
+        }
+        Ok(Poly::trimmed(row))
+    }
+}

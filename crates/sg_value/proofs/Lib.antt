@@ -1,0 +1,5 @@
+pub mod Lowest
+pub mod Fitting
+pub mod Operating
+pub mod Joining
+pub mod Folding

@@ -1,0 +1,92 @@
+use Rattle.std.proofs.Common.{◌≡◌, ◌≤◌, ◌+◌, ℕ, suc, refl, subst, arith, rules, w64, SFits, ℤ, to_z, of_z, ◌∙◌}
+use Rattle.std.proofs.lemmas.Int.{to_z-of_z}
+use Rattle.sg_spec.specs.Fraction.{Fraction}
+use Rattle.sg_spec.specs.Value.{val, folded, how_many}
+use Rattle.sg_spec.specs.Steps.{Operation, steps, folded_steps, result_of}
+use Rattle.sg_spec.specs.Tree.{Tree}
+use Rattle.sg_expr.specs.Tree.{tree_of}
+use Rattle.sg_num.specs.Value.{fraction}
+use Rattle.sg_value.specs.declared.step.Outcome.{Outcome}
+use Rattle.sg_value.specs.declared.step.Outcome.TheVariants.{Value, NoValue, TooWide}
+use Rattle.sg_value.specs.Answer.{Answers, operation_of}
+use Rattle.sg_value.proofs.Folding.{fold-next, fold-given, folded-none, folded-wide}
+use Rattle.sg_value.proofs.value.+evaluate.Goals as goal
+
+-- a number as it is handed on
+abbrev given : ℤ → ℤ
+given z = to_z w64 (of_z w64 z)
+
+abbrev folds : Outcome → Operation → Fraction → Tree → ℤ → ℤ → ℕ → Type 0
+folds r op start body n from i = Answers r (folded (result_of op) start (val body n) from i) (folded_steps op start (val body n) (steps body n) from i)
+
+pub fold-returns-in-NoValue : goal.fold-returns-in-NoValue
+fold-returns-in-NoValue t c =
+    let op = operation_of c.args.op in
+    let start = fraction c.args.start in
+    let body = tree_of c.args.body.now in
+    let fits_place : SFits w64 c.place.result = search rules in
+    let place = to_z-of_z w64 c.place.result fits_place in
+    let next = fold-next op start body (given c.args.n) (given c.args.from) (given c.place.result) c.loop-i.i c.loop-i.so_far c.evaluate-term.result c.join.result
+    (place ∙ c.place.ensures) c.loop-i.invariant c.evaluate-term.ensures c.join.ensures in
+    let last = subst (λ (r : Outcome). folds r op start body (given c.args.n) (given c.args.from) (suc c.loop-i.i)) c.in-NoValue.is next in
+    let fits_from : SFits w64 c.args.from = c.ranges.from in
+    let fits_last : SFits w64 c.args.last = c.ranges.last in
+    let terms = simp to_z-of_z at c.count-terms.ensures in
+    let more : suc c.loop-i.i ≤ how_many c.args.from c.args.last = omega arith in
+    folded-none op start (val body c.args.n) (steps body c.args.n) c.args.from (suc c.loop-i.i) (how_many c.args.from c.args.last) more
+    (fold-given op start body c.args.n (given c.args.n) c.args.from (given c.args.from) (suc c.loop-i.i) (suc c.loop-i.i) NoValue
+    (to_z-of_z w64 c.args.n c.ranges.n) (to_z-of_z w64 c.args.from c.ranges.from) refl last)
+
+pub fold-returns-in-TooWide : goal.fold-returns-in-TooWide
+fold-returns-in-TooWide t c =
+    let op = operation_of c.args.op in
+    let start = fraction c.args.start in
+    let body = tree_of c.args.body.now in
+    let fits_place : SFits w64 c.place.result = search rules in
+    let place = to_z-of_z w64 c.place.result fits_place in
+    let next = fold-next op start body (given c.args.n) (given c.args.from) (given c.place.result) c.loop-i.i c.loop-i.so_far c.evaluate-term.result c.join.result
+    (place ∙ c.place.ensures) c.loop-i.invariant c.evaluate-term.ensures c.join.ensures in
+    let last = subst (λ (r : Outcome). folds r op start body (given c.args.n) (given c.args.from) (suc c.loop-i.i)) c.in-TooWide.is next in
+    let fits_from : SFits w64 c.args.from = c.ranges.from in
+    let fits_last : SFits w64 c.args.last = c.ranges.last in
+    let terms = simp to_z-of_z at c.count-terms.ensures in
+    let more : suc c.loop-i.i ≤ how_many c.args.from c.args.last = omega arith in
+    folded-wide c.in-TooWide.wide op start (val body c.args.n) (steps body c.args.n) c.args.from (suc c.loop-i.i) (how_many c.args.from c.args.last) more
+    (fold-given op start body c.args.n (given c.args.n) c.args.from (given c.args.from) (suc c.loop-i.i) (suc c.loop-i.i) (TooWide c.in-TooWide.wide)
+    (to_z-of_z w64 c.args.n c.ranges.n) (to_z-of_z w64 c.args.from c.ranges.from) refl last)
+
+pub fold-loop-i-preserved : goal.fold-loop-i-preserved
+fold-loop-i-preserved t c =
+    let op = operation_of c.args.op in
+    let start = fraction c.args.start in
+    let body = tree_of c.args.body.now in
+    let fits_place : SFits w64 c.place.result = search rules in
+    let place = to_z-of_z w64 c.place.result fits_place in
+    let next = fold-next op start body (given c.args.n) (given c.args.from) (given c.place.result) c.loop-i.i c.loop-i.so_far c.evaluate-term.result c.join.result
+    (place ∙ c.place.ensures) c.loop-i.invariant c.evaluate-term.ensures c.join.ensures in
+    let last = subst (λ (r : Outcome). folds r op start body (given c.args.n) (given c.args.from) (suc c.loop-i.i)) c.in-Value.is next in
+    let one_more : suc c.loop-i.i ≡ c.loop-i.i + 1 = omega arith in
+    fold-given op start body (given c.args.n) (given c.args.n) (given c.args.from) (given c.args.from) (suc c.loop-i.i) (c.loop-i.i + 1) (Value c.in-Value.next) refl refl one_more last
+
+pub fold-returns : goal.fold-returns
+fold-returns t c =
+    let fits_from : SFits w64 c.args.from = c.ranges.from in
+    let fits_last : SFits w64 c.args.last = c.ranges.last in
+    let terms = simp to_z-of_z at c.count-terms.ensures in
+    let all : c.loop-i.i ≡ how_many c.args.from c.args.last = omega arith in
+    fold-given (operation_of c.args.op) (fraction c.args.start) (tree_of c.args.body.now) c.args.n (given c.args.n) c.args.from (given c.args.from) c.loop-i.i (how_many c.args.from c.args.last)
+    (Value c.loop-i.so_far) (to_z-of_z w64 c.args.n c.ranges.n) (to_z-of_z w64 c.args.from c.ranges.from) all c.loop-i.invariant
+
+pub evaluate-returns-in-Sum : goal.evaluate-returns-in-Sum
+evaluate-returns-in-Sum t c =
+    let fits_n : SFits w64 c.args.n = c.ranges.n in
+    let fits_k : SFits w64 c.args.k = c.ranges.k in
+    let fits_from : SFits w64 c.in-Sum.from = search rules in
+    rw c.in-Sum.is (simp to_z-of_z at (rw (c.whole-in-Sum.ensures, c.deref-in-Sum.ensures) at c.fold.ensures))
+
+pub evaluate-returns-in-Prod : goal.evaluate-returns-in-Prod
+evaluate-returns-in-Prod t c =
+    let fits_n : SFits w64 c.args.n = c.ranges.n in
+    let fits_k : SFits w64 c.args.k = c.ranges.k in
+    let fits_from : SFits w64 c.in-Prod.from = search rules in
+    rw c.in-Prod.is (simp to_z-of_z at (rw (c.whole-in-Prod.ensures, c.deref-in-Prod.ensures) at c.fold-in-Prod.ensures))

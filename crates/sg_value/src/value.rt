@@ -1,0 +1,116 @@
+ghost use Rattle.std.specs.Prelude.{◌↔◌, ℤ, IfOk, IfErr, IsOk, List, Option, Some};
+ghost use Rattle.sg_spec.specs.Fraction.{Fraction};
+ghost use Rattle.sg_spec.specs.Tree.{Tree, neg, power};
+ghost use Rattle.sg_spec.specs.Value.{val, both, folded, how_many, power_of};
+ghost use Rattle.sg_spec.specs.Steps.{Step, steps, steps_of_two, folded_steps, power_steps, result_of, made, AllFit, IsFirstMisfit, multiplication};
+ghost use Rattle.sg_expr.specs.Tree.{tree_of};
+ghost use Rattle.sg_num.specs.Value.{fraction};
+ghost use Rattle.sg_value.specs.Answer.{Answers, IsValue, Stands, operation_of, step_of};
+
+use crate::step::{Outcome, join, operate};
+use crate::terms::{count, place, whole};
+use sg_expr::Expr;
+use sg_num::{Op, Rat, Wide};
+
+/// The value of `e` for the parameter `n` and the variable `k`; None exactly where it has none. It is Wide where a step of
+/// the evaluation doesn't fit, and keeps the first such step: sums and products are folded term by term, what was folded so
+/// far on the left. It takes no memory.
+pub fn value_at(e: &Expr, n: i64, k: i64) -> Result<Option<Rat>, Wide>
+    ensures value { IfOk result (λ v. IsValue v (val (tree_of e.now) n k)) }
+    ensures wide { IfErr result (λ w. IsFirstMisfit (steps (tree_of e.now) n k) (step_of w)) }
+    ensures exact { IsOk result ↔ AllFit (steps (tree_of e.now) n k) }
+{
+    match evaluate(e, n, k) {
+        Outcome::Value(r) => Ok(Some(r)),
+        Outcome::NoValue => Ok(None),
+        Outcome::TooWide(wide) => Err(wide),
+    }
+}
+
+/// The value by the steps of the definition, up to the first that does not fit.
+#[cycle(evaluate)]
+fn evaluate(e: &Expr, n: i64, k: i64) -> Outcome
+    ensures { Answers result (val (tree_of e.now) n k) (steps (tree_of e.now) n k) }
+{
+    match e {
+        Expr::Num(c) => Outcome::Value(Rat::whole(*c)),
+        Expr::Here => Outcome::Value(whole(k)),
+        Expr::Param => Outcome::Value(whole(n)),
+        Expr::Add(a, b) => evaluate_right(Op::Add, evaluate(a, n, k), b, n, k),
+        Expr::Neg(a) => opposite(evaluate(a, n, k)),
+        Expr::Mul(a, b) => evaluate_right(Op::Mul, evaluate(a, n, k), b, n, k),
+        Expr::Div(a, b) => evaluate_right(Op::Div, evaluate(a, n, k), b, n, k),
+        Expr::Pow(a, e) => raise(evaluate(a, n, k), *e),
+        Expr::Sum { from, body } => fold(Op::Add, Rat::whole(0), body, n, *from, k),
+        Expr::Prod { from, body } => fold(Op::Mul, Rat::whole(1), body, n, *from, k),
+    }
+}
+
+/// After what the left part answered the right part, and then the step that joins them.
+#[cycle(evaluate)]
+fn evaluate_right(op: Op, left: Outcome, right: &Expr, n: i64, k: i64) -> Outcome
+    ensures { (u : Option Fraction) (us : List Step) → Answers left u us
+        → Answers result (both (result_of (operation_of op)) u (val (tree_of right.now) n k)) (steps_of_two (operation_of op) u us (val (tree_of right.now) n k) (steps (tree_of right.now) n k)) }
+{
+    match left {
+        Outcome::Value(left) => join(op, left, evaluate(right, n, k)),
+        Outcome::NoValue => Outcome::NoValue,
+        Outcome::TooWide(wide) => Outcome::TooWide(wide),
+    }
+}
+
+/// The terms from the first to the last, each joined on the right of what was folded so far.
+#[cycle(evaluate)]
+fn fold(op: Op, start: Rat, body: &Expr, n: i64, from: i64, last: i64) -> Outcome
+    ensures { Answers result (folded (result_of (operation_of op)) (fraction start) (val (tree_of body.now) n) from (how_many from last))
+        (folded_steps (operation_of op) (fraction start) (val (tree_of body.now) n) (steps (tree_of body.now) n) from (how_many from last)) }
+{
+    let mut so_far = start;
+    let terms = count(from, last);
+    for i in 0..terms {
+        let term = evaluate(body, n, place(from, last, i));
+        match join(op, so_far, term) {
+            Outcome::Value(next) => so_far = next,
+            Outcome::NoValue => return Outcome::NoValue,
+            Outcome::TooWide(wide) => return Outcome::TooWide(wide),
+        }
+    }
+    Outcome::Value(so_far)
+}
+
+/// 0 less what was answered.
+fn opposite(part: Outcome) -> Outcome
+    ensures { (t : Tree) (n k : ℤ) → Answers part (val t n k) (steps t n k) → Answers result (val (neg t) n k) (steps (neg t) n k) }
+{
+    match part {
+        Outcome::Value(x) => operate(Op::Sub, Rat::whole(0), x),
+        Outcome::NoValue => Outcome::NoValue,
+        Outcome::TooWide(wide) => Outcome::TooWide(wide),
+    }
+}
+
+/// 1, multiplied by what was answered as often as the exponent says.
+fn raise(base: Outcome, exponent: u128) -> Outcome
+    ensures { (t : Tree) (n k : ℤ) → Answers base (val t n k) (steps t n k) → Answers result (val (power t exponent) n k) (steps (power t exponent) n k) }
+{
+    match base {
+        Outcome::Value(x) => power(x, exponent),
+        Outcome::NoValue => Outcome::NoValue,
+        Outcome::TooWide(wide) => Outcome::TooWide(wide),
+    }
+}
+
+/// 1, multiplied by x as often as the exponent says.
+fn power(x: Rat, exponent: u128) -> Outcome
+    ensures { (y : Fraction) → Stands x (Some y) → Answers result (power_of (Some y) exponent) (power_steps (Some y) exponent) }
+{
+    let mut so_far = Rat::whole(1);
+    for _i in 0..exponent {
+        match operate(Op::Mul, so_far, x) {
+            Outcome::Value(next) => so_far = next,
+            Outcome::NoValue => return Outcome::NoValue,
+            Outcome::TooWide(wide) => return Outcome::TooWide(wide),
+        }
+    }
+    Outcome::Value(so_far)
+}

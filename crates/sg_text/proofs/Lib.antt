@@ -15,6 +15,7 @@ pub mod Within
 pub mod Exclusive
 pub mod Depth
 pub mod Outcome
+pub mod Balance
 pub mod PrintSteps
 pub mod PrintMeanings
 pub mod PrintCalls

@@ -2,7 +2,8 @@
 --   input_bounds       what texts the program takes
 --   IsTaken            the text of a command reads as this tree within the bounds, and the tree keeps the counted limits
 --   IsClosedAnswer     `closed <form> from <start>`: the form reads back as a canonical closed form of the sum
---   IsWideSum          `wide <step>`: the text is one that is summed, and the step doesn't fit
+--   IsWideSum          `wide <step>`: the text is one that is summed, and the step doesn't fit; never for a polynomial of
+--                      degree at most 1 with a weight up to 65,536 from a limit of size up to 64 on
 --   IsFractionAnswer   the value of the expression, in lowest terms
 --   IsNoValueAnswer    `no value`: it has none
 --   IsWideValue        `wide <step>`: the first step of the evaluation that doesn't fit
@@ -13,13 +14,13 @@
 --   Tells              what was appended to what is held is such a text, where the sink tells what it holds
 --   IsFrontOf          the first bytes of such a text
 --   Answers            what a call with this status appended, and after a write fault that the count of faults rose
-use Rattle.std.specs.Prelude.{◌≡◌, ℕ, List, [], ◌∷◌, ◌++◌, ℤ, pos, codes, nat_le, Option, Some, None, ◌⊎◌}
+use Rattle.std.specs.Prelude.{◌≡◌, ℕ, List, [], ◌∷◌, ◌++◌, ℤ, pos, codes, nat_le, ◌≤◌, unsigned_abs, Option, Some, None, ◌⊎◌}
 use Rattle.sg_spec.specs.Tree.{Tree}
 use Rattle.sg_spec.specs.Value.{val, SameValue}
 use Rattle.sg_spec.specs.Steps.{steps, IsFirstMisfit}
 use Rattle.sg_spec.specs.Reading.{Bounds, Refusal, Reads, IsRead, IsRefused}
-use Rattle.sg_spec.specs.Limits.{CountFault, counted}
-use Rattle.sg_spec.specs.Plain.{IsPlain, IsCanonical}
+use Rattle.sg_spec.specs.Limits.{CountFault, counted, degrees}
+use Rattle.sg_spec.specs.Plain.{IsPlain, IsCanonical, weight}
 use Rattle.sg_spec.specs.Closed.{Closed}
 use Rattle.sg_num.specs.Value.{fraction}
 use Rattle.sg_num.specs.Stopped.{IsTooWide}
@@ -59,6 +60,7 @@ pub record IsWideSum (a : ℤ) (summand line : List ℕ) : Type 0 where
   pub plain : IsPlain tree
   pub step : WideStep
   pub too_wide : IsTooWide step
+  pub not_narrow : (degrees tree).variable ≤ 1 → weight tree ≤ 65536 → unsigned_abs a ≤ 64 → ⊥
   pub is : line ≡ wide_line step
 
 pub record IsFractionAnswer (letters : List ℕ) (n k : ℤ) (text line : List ℕ) : Type 0 where

@@ -45,6 +45,7 @@ fn lists_the_sums_from_the_inside(rt: HostRuntime) -> Result<(), Fail> {
     assert_eq!(rt; sums.len(), 2);
     assert!(rt; sums.get(0).same(&harmonic(alloc)?));
     assert!(rt; sums.get(1).same(&outer));
+    assert_eq!(rt; outer.join_sums(alloc, sums)?.len(), 2);
     assert!(rt; e.prods_of(alloc)?.is_empty());
     Ok(())
 }
@@ -58,6 +59,7 @@ fn lists_a_product_once(rt: HostRuntime) -> Result<(), Fail> {
     let prods = e.prods_of(alloc)?;
     assert_eq!(rt; prods.len(), 1);
     assert!(rt; prods.get(0).same(&power));
+    assert_eq!(rt; e.join_prods(alloc, prods)?.len(), 1);
     Ok(())
 }
 

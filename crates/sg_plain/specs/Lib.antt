@@ -1,2 +1,4 @@
 pub mod Evaluation
 pub mod Telescoping
+pub mod Terms
+pub mod CommonDenominator

@@ -1,7 +1,13 @@
 //! Closed forms of sums of plain polynomials: coefficients, telescoping from the top, and the canonical tree.
 #![tactic(auto)]
 
+mod closed;
 mod coefficients;
+mod common;
 mod polynomial;
 mod step;
 mod sums;
+mod terms;
+mod whole;
+
+pub use closed::closed_form;

@@ -1,3 +1,3 @@
-pub mod FormLaws
-pub mod Replies
 pub mod Sending
+pub mod Commands
+pub mod Replies

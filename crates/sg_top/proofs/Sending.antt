@@ -1,11 +1,14 @@
--- What a sink holds after a write fault.
+-- What a sink holds after an answer was sent, whole or in part.
+--   tells-line      a line that was appended is told
+--   sent-answer     so the call answered with the status of this line
 --   fault-answer    first bytes of an answer's text are first bytes of an answer
 use Rattle.std.proofs.Common.{◌≡◌, ℕ, ◌+◌, List, ◌++◌, take, drop, Option, Some, None, ap, sym, ◌∙◌, subst, append_assoc, length, ◌-◌, length-drop}
 use Rattle.std.proofs.Math.Seq.{take-add, take-length}
 use Rattle.std.proofs.lemmas.List.{take-append-drop}
 use Rattle.sg_io.specs.Bytes.{Appends}
-use Rattle.sg_top.specs.Answer.{IsAnswer, Tells, IsFrontOf}
+use Rattle.sg_top.specs.Answer.{IsAnswer, Tells, IsFrontOf, Answers}
 use Rattle.sg_top.specs.declared.status.Status.{Status}
+use Rattle.sg_top.specs.declared.status.Status.TheVariants.{Done, No, Usage, Refused, Wide, Memory, ReadFault, WriteFault}
 
 pub fault-answer : (words : List (List ℕ)) (status : Status) (text : List ℕ) (old new : Option (List ℕ)) → IsAnswer words status text
     → Tells (IsFrontOf (λ whole. whole ≡ text)) old new → Tells (IsFrontOf (λ whole. (s : Status) × IsAnswer words s whole)) old new
@@ -33,3 +36,20 @@ front-of None None text n h = tt
 -- what is left from a place on, whole
 pub take-rest : (n : ℕ) (text : List ℕ) → take (length text - n) (drop n text) ≡ drop n text
 take-rest n text = rw (← length-drop n text) (take-length (drop n text))
+
+tells-line : (P : List ℕ → Type 0) (old new : Option (List ℕ)) (line : List ℕ) → P line → Appends old new line → Tells P old new
+tells-line P (Some old) (Some new) line p h = (line, h, p)
+tells-line P (Some old) None line p h = absurd h
+tells-line P None (Some new) line p h = absurd h
+tells-line P None None line p h = tt
+
+pub sent-answer : (words : List (List ℕ)) (status : Status) (line : List ℕ) (old new : Option (List ℕ)) (before after : ℕ) → IsAnswer words status line → Appends old new line
+    → Answers words status old new before after
+sent-answer words Done line old new before after p h = tells-line (IsAnswer words Done) old new line p h
+sent-answer words No line old new before after p h = tells-line (IsAnswer words No) old new line p h
+sent-answer words Usage line old new before after p h = tells-line (IsAnswer words Usage) old new line p h
+sent-answer words Refused line old new before after p h = tells-line (IsAnswer words Refused) old new line p h
+sent-answer words Wide line old new before after p h = tells-line (IsAnswer words Wide) old new line p h
+sent-answer words Memory line old new before after p h = tells-line (IsAnswer words Memory) old new line p h
+sent-answer words ReadFault line old new before after p h = absurd p
+sent-answer words WriteFault line old new before after p h = absurd p

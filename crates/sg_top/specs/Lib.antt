@@ -2,3 +2,4 @@ pub mod Code
 pub mod Words
 pub mod Texts
 pub mod Answer
+pub mod Taking

@@ -1,11 +1,15 @@
 //! The top call: from the words of a command to the bytes of its answer.
 #![tactic(auto)]
 
-mod forms;
+mod answer;
+mod lines;
 mod reply;
 mod send;
 mod status;
+mod sums;
+mod taken;
 mod top;
+mod values;
 mod words;
 
 pub use status::Status;

@@ -2,7 +2,7 @@ ghost use Rattle.std.specs.Prelude.{◌≡◌, map, string_bytes};
 ghost use Rattle.sg_top.specs.Answer.{Answers};
 
 use crate::Status;
-use crate::reply::reply_to;
+use crate::answer::reply_to;
 use crate::send::send;
 use sg_io::{Sink, Source};
 use std::alloc::Global;

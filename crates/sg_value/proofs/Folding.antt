@@ -27,22 +27,21 @@ whole-stands r z e = (subst (λ (x : Fraction). Same x (whole z)) (sym e) refl, 
 le-cases : (m c : ℕ) → m ≤ suc c → (m ≤ c) ⊎ (m ≡ suc c)
 le-cases m c h = elim (eq-or-lt_of_le h) [ inl e ↦ inr e | inr k ↦ inl (omega arith) ]
 
-pub folded-none : (op : Operation) (start : Fraction) (term : ℤ → Option Fraction) (ts : ℤ → List Step) (from : ℤ) (m c : ℕ) → m ≤ c
-    → Answers NoValue (folded (result_of op) start term from m) (folded_steps op start term ts from m)
-    → Answers NoValue (folded (result_of op) start term from c) (folded_steps op start term ts from c)
-folded-none op start term ts from m zero h a = let e : m ≡ zero = omega arith in subst (λ (i : ℕ). Answers NoValue (folded (result_of op) start term from i) (folded_steps op start term ts from i)) e a
-folded-none op start term ts from m (suc c) h a = elim (le-cases m c h) [
-  | inl k ↦ stop-none op (folded (result_of op) start term from c) (term (from +ℤ pos c)) (folded_steps op start term ts from c) (ts (from +ℤ pos c)) (folded-none op start term ts from m c k a)
-  | inr e ↦ subst (λ (i : ℕ). Answers NoValue (folded (result_of op) start term from i) (folded_steps op start term ts from i)) e a
-]
+-- nothing comes after an end
+stop : (op : Operation) (out : Outcome) (u v : Option Fraction) (us vs : List Step) → ((r : Rat) → out ≡ Value r → ⊥) → Answers out u us → Answers out (both (result_of op) u v) (steps_of_two op u us v vs)
+stop op (Value r) u v us vs ends a = absurd (ends r refl)
+stop op NoValue u v us vs ends a = stop-none op u v us vs a
+stop op (TooWide w) u v us vs ends a = stop-wide op w u v us vs a
 
-pub folded-wide : (w : Wide) (op : Operation) (start : Fraction) (term : ℤ → Option Fraction) (ts : ℤ → List Step) (from : ℤ) (m c : ℕ) → m ≤ c
-    → Answers (TooWide w) (folded (result_of op) start term from m) (folded_steps op start term ts from m)
-    → Answers (TooWide w) (folded (result_of op) start term from c) (folded_steps op start term ts from c)
-folded-wide w op start term ts from m zero h a = let e : m ≡ zero = omega arith in subst (λ (i : ℕ). Answers (TooWide w) (folded (result_of op) start term from i) (folded_steps op start term ts from i)) e a
-folded-wide w op start term ts from m (suc c) h a = elim (le-cases m c h) [
-  | inl k ↦ stop-wide op w (folded (result_of op) start term from c) (term (from +ℤ pos c)) (folded_steps op start term ts from c) (ts (from +ℤ pos c)) (folded-wide w op start term ts from m c k a)
-  | inr e ↦ subst (λ (i : ℕ). Answers (TooWide w) (folded (result_of op) start term from i) (folded_steps op start term ts from i)) e a
+pub folded-ends : (op : Operation) (start : Fraction) (t : Tree) (n from : ℤ) (m c : ℕ) (out : Outcome) → ((r : Rat) → out ≡ Value r → ⊥) → m ≤ c
+    → Answers out (folded (result_of op) start (val t n) from m) (folded_steps op start (val t n) (steps t n) from m)
+    → Answers out (folded (result_of op) start (val t n) from c) (folded_steps op start (val t n) (steps t n) from c)
+folded-ends op start t n from m zero out ends h a =
+    let e : m ≡ zero = omega arith in
+    subst (λ (i : ℕ). Answers out (folded (result_of op) start (val t n) from i) (folded_steps op start (val t n) (steps t n) from i)) e a
+folded-ends op start t n from m (suc c) out ends h a = elim (le-cases m c h) [
+  | inl k ↦ stop op out (folded (result_of op) start (val t n) from c) (val t n (from +ℤ pos c)) (folded_steps op start (val t n) (steps t n) from c) (steps t n (from +ℤ pos c)) ends (folded-ends op start t n from m c out ends k a)
+  | inr e ↦ subst (λ (i : ℕ). Answers out (folded (result_of op) start (val t n) from i) (folded_steps op start (val t n) (steps t n) from i)) e a
 ]
 
 pub fold-next : (op : Operation) (start : Fraction) (t : Tree) (n from j : ℤ) (i : ℕ) (so_far : Rat) (term out : Outcome)
@@ -65,24 +64,27 @@ fold-given op start t n n' from from' i j out en ef ei a =
     subst (λ (m : ℕ). Answers out (folded (result_of op) start (val t n) from m) (folded_steps op start (val t n) (steps t n) from m)) ei a''
 
 -- a power of a fraction always has a value
-pub power-some : (y : Fraction) (e : ℕ) → (z : Fraction) × (power_of (Some y) e ≡ Some z)
+power-some : (y : Fraction) (e : ℕ) → (z : Fraction) × (power_of (Some y) e ≡ Some z)
 power-some y zero = (whole (pos 1), refl)
 power-some y (suc e) =
     let (z, is) = power-some y e in
     (times z y, ap (λ (u : Option Fraction). both product_of u (Some y)) is)
 
-pub power-none : (y : Fraction) (e : ℕ) (ss : List Step) → Answers NoValue (power_of (Some y) e) ss → ⊥
-power-none y e ss a =
+power-stop : (y : Fraction) (e : ℕ) (out : Outcome) → ((r : Rat) → out ≡ Value r → ⊥)
+    → Answers out (power_of (Some y) e) (power_steps (Some y) e) → Answers out (power_of (Some y) (suc e)) (power_steps (Some y) (suc e))
+power-stop y e (Value r) ends a = absurd (ends r refl)
+power-stop y e NoValue ends a =
     let (z, is) = power-some y e in
     let none : power_of (Some y) e ≡ None = a.0 in
     cc
+power-stop y e (TooWide w) ends a = misfit-more (power_steps (Some y) e) (made multiplication (power_of (Some y) e) (Some y)) (step_of w) a
 
-pub power-wide : (w : Wide) (y : Fraction) (m c : ℕ) → m ≤ c
-    → Answers (TooWide w) (power_of (Some y) m) (power_steps (Some y) m) → Answers (TooWide w) (power_of (Some y) c) (power_steps (Some y) c)
-power-wide w y m zero h a = let e : m ≡ zero = omega arith in subst (λ (i : ℕ). IsFirstMisfit (power_steps (Some y) i) (step_of w)) e a
-power-wide w y m (suc c) h a = elim (le-cases m c h) [
-  | inl k ↦ misfit-more (power_steps (Some y) c) (made multiplication (power_of (Some y) c) (Some y)) (step_of w) (power-wide w y m c k a)
-  | inr e ↦ subst (λ (i : ℕ). IsFirstMisfit (power_steps (Some y) i) (step_of w)) e a
+pub power-ends : (y : Fraction) (m c : ℕ) (out : Outcome) → ((r : Rat) → out ≡ Value r → ⊥) → m ≤ c
+    → Answers out (power_of (Some y) m) (power_steps (Some y) m) → Answers out (power_of (Some y) c) (power_steps (Some y) c)
+power-ends y m zero out ends h a = let e : m ≡ zero = omega arith in subst (λ (i : ℕ). Answers out (power_of (Some y) i) (power_steps (Some y) i)) e a
+power-ends y m (suc c) out ends h a = elim (le-cases m c h) [
+  | inl k ↦ power-stop y c out ends (power-ends y m c out ends k a)
+  | inr e ↦ subst (λ (i : ℕ). Answers out (power_of (Some y) i) (power_steps (Some y) i)) e a
 ]
 
 -- one more factor

@@ -12,8 +12,8 @@ use crate::terms::{count, place, whole};
 use sg_expr::Expr;
 use sg_num::{Op, Rat, Wide};
 
-/// The value of `e` for the parameter `n` and the variable `k`; None exactly where it has none. It is Wide where a step of
-/// the evaluation doesn't fit, and keeps the first such step: sums and products are folded term by term, what was folded so
+/// The value of `e` for the parameter `n` and the variable `k`; None where it has none. It is Wide exactly where a
+/// step of the evaluation doesn't fit, and keeps the first such step: sums and products are folded term by term, what was folded so
 /// far on the left. It takes no memory.
 pub fn value_at(e: &Expr, n: i64, k: i64) -> Result<Option<Rat>, Wide>
     ensures value { IfOk result (λ v. IsValue v (val (tree_of e.now) n k)) }
@@ -71,8 +71,7 @@ fn fold(op: Op, start: Rat, body: &Expr, n: i64, from: i64, last: i64) -> Outcom
         let term = evaluate(body, n, place(from, last, i));
         match join(op, so_far, term) {
             Outcome::Value(next) => so_far = next,
-            Outcome::NoValue => return Outcome::NoValue,
-            Outcome::TooWide(wide) => return Outcome::TooWide(wide),
+            end => return end,
         }
     }
     Outcome::Value(so_far)
@@ -108,8 +107,7 @@ fn power(x: Rat, exponent: u128) -> Outcome
     for _i in 0..exponent {
         match operate(Op::Mul, so_far, x) {
             Outcome::Value(next) => so_far = next,
-            Outcome::NoValue => return Outcome::NoValue,
-            Outcome::TooWide(wide) => return Outcome::TooWide(wide),
+            end => return end,
         }
     }
     Outcome::Value(so_far)

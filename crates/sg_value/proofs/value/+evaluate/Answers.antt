@@ -9,7 +9,7 @@ use Rattle.sg_num.specs.Value.{fraction}
 use Rattle.sg_value.specs.declared.step.Outcome.{Outcome}
 use Rattle.sg_value.specs.declared.step.Outcome.TheVariants.{Value, NoValue, TooWide}
 use Rattle.sg_value.specs.Answer.{Answers, operation_of}
-use Rattle.sg_value.proofs.Folding.{fold-next, fold-given, folded-none, folded-wide}
+use Rattle.sg_value.proofs.Folding.{fold-next, fold-given, folded-ends}
 use Rattle.sg_value.proofs.value.+evaluate.Goals as goal
 
 -- a number as it is handed on
@@ -19,8 +19,8 @@ given z = to_z w64 (of_z w64 z)
 abbrev folds : Outcome → Operation → Fraction → Tree → ℤ → ℤ → ℕ → Type 0
 folds r op start body n from i = Answers r (folded (result_of op) start (val body n) from i) (folded_steps op start (val body n) (steps body n) from i)
 
-pub fold-returns-in-NoValue : goal.fold-returns-in-NoValue
-fold-returns-in-NoValue t c =
+pub fold-returns-in_default : goal.fold-returns-in_default
+fold-returns-in_default t c =
     let op = operation_of c.args.op in
     let start = fraction c.args.start in
     let body = tree_of c.args.body.now in
@@ -28,32 +28,13 @@ fold-returns-in-NoValue t c =
     let place = to_z-of_z w64 c.place.result fits_place in
     let next = fold-next op start body (given c.args.n) (given c.args.from) (given c.place.result) c.loop-i.i c.loop-i.so_far c.evaluate-term.result c.join.result
     (place ∙ c.place.ensures) c.loop-i.invariant c.evaluate-term.ensures c.join.ensures in
-    let last = subst (λ (r : Outcome). folds r op start body (given c.args.n) (given c.args.from) (suc c.loop-i.i)) c.in-NoValue.is next in
     let fits_from : SFits w64 c.args.from = c.ranges.from in
     let fits_last : SFits w64 c.args.last = c.ranges.last in
     let terms = simp to_z-of_z at c.count-terms.ensures in
     let more : suc c.loop-i.i ≤ how_many c.args.from c.args.last = omega arith in
-    folded-none op start (val body c.args.n) (steps body c.args.n) c.args.from (suc c.loop-i.i) (how_many c.args.from c.args.last) more
-    (fold-given op start body c.args.n (given c.args.n) c.args.from (given c.args.from) (suc c.loop-i.i) (suc c.loop-i.i) NoValue
-    (to_z-of_z w64 c.args.n c.ranges.n) (to_z-of_z w64 c.args.from c.ranges.from) refl last)
-
-pub fold-returns-in-TooWide : goal.fold-returns-in-TooWide
-fold-returns-in-TooWide t c =
-    let op = operation_of c.args.op in
-    let start = fraction c.args.start in
-    let body = tree_of c.args.body.now in
-    let fits_place : SFits w64 c.place.result = search rules in
-    let place = to_z-of_z w64 c.place.result fits_place in
-    let next = fold-next op start body (given c.args.n) (given c.args.from) (given c.place.result) c.loop-i.i c.loop-i.so_far c.evaluate-term.result c.join.result
-    (place ∙ c.place.ensures) c.loop-i.invariant c.evaluate-term.ensures c.join.ensures in
-    let last = subst (λ (r : Outcome). folds r op start body (given c.args.n) (given c.args.from) (suc c.loop-i.i)) c.in-TooWide.is next in
-    let fits_from : SFits w64 c.args.from = c.ranges.from in
-    let fits_last : SFits w64 c.args.last = c.ranges.last in
-    let terms = simp to_z-of_z at c.count-terms.ensures in
-    let more : suc c.loop-i.i ≤ how_many c.args.from c.args.last = omega arith in
-    folded-wide c.in-TooWide.wide op start (val body c.args.n) (steps body c.args.n) c.args.from (suc c.loop-i.i) (how_many c.args.from c.args.last) more
-    (fold-given op start body c.args.n (given c.args.n) c.args.from (given c.args.from) (suc c.loop-i.i) (suc c.loop-i.i) (TooWide c.in-TooWide.wide)
-    (to_z-of_z w64 c.args.n c.ranges.n) (to_z-of_z w64 c.args.from c.ranges.from) refl last)
+    folded-ends op start body c.args.n c.args.from (suc c.loop-i.i) (how_many c.args.from c.args.last) c.join.result c.in_default.not-Value more
+    (fold-given op start body c.args.n (given c.args.n) c.args.from (given c.args.from) (suc c.loop-i.i) (suc c.loop-i.i) c.join.result
+    (to_z-of_z w64 c.args.n c.ranges.n) (to_z-of_z w64 c.args.from c.ranges.from) refl next)
 
 pub fold-loop-i-preserved : goal.fold-loop-i-preserved
 fold-loop-i-preserved t c =

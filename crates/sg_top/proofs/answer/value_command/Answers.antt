@@ -1,0 +1,14 @@
+use Rattle.std.specs.Prelude.{codes}
+use Rattle.std.proofs.Common.{FitsSigned, rules, refl, [], ◌∷◌}
+use Rattle.std.specs.Int.{w64}
+use Rattle.std.proofs.lemmas.Int.{to_z-of_z}
+use Rattle.sg_top.specs.Words.{value}
+use Rattle.sg_top.proofs.Replies.{command-answer}
+use Rattle.sg_top.proofs.answer.value_command.Goals as goal
+
+pub returns-in_ok-reply-in-Some : goal.returns-in_ok-reply-in-Some
+returns-in_ok-reply-in-Some c =
+    let fits : FitsSigned w64 c.in-Some.k = search rules in
+    command-answer (codes "value" ∷ (c.args.point.now ∷ (c.args.text.now ∷ []))) (value c.in-Some.k) c.args.text.now c.in_ok-reply-in-Some.reply.text.items c.in_ok-reply-in-Some.reply.status
+    (record { point = c.args.point.now; are = refl; number = c.in-Some.ensures })
+    (simp to_z-of_z at c.in_ok-reply-in-Some.ensures)

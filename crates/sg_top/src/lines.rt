@@ -1,0 +1,112 @@
+ghost use Rattle.std.specs.Prelude.{◌≡◌, ◌++◌, IfOk, Some, decimal, codes};
+ghost use Rattle.sg_spec.specs.Reading.{Refusal};
+ghost use Rattle.sg_num.specs.Value.{fraction};
+ghost use Rattle.sg_text.specs.RationalText.{rational_text};
+ghost use Rattle.sg_text.specs.Reads.{refusal_of};
+ghost use Rattle.sg_top.specs.Texts.{closed_line, wide_line, op_word, placed_line, refusal_line};
+
+use itoa::Buffer;
+use sg_num::{Op, Rat, Wide};
+use sg_text::{ReadFault, print_rat};
+use std::alloc::{AllocError, Global};
+
+// The lines of answers. The error of each call is want of memory.
+
+/// `closed <form> from <start>`.
+pub fn closed_text(alloc: Global, form: &[u8], start: i64) -> Result<Vec<u8>, AllocError>
+    ensures { IfOk result (λ t. t.items ≡ closed_line form.now start) }
+{
+    let mut buffer = Buffer::new();
+    let mut text = Vec::from_slice(alloc, b"closed ")?;
+    text.extend_from_slice(form)?;
+    text.extend_from_slice(b" from ")?;
+    text.extend_from_slice(buffer.format(start).as_bytes())?;
+    text.extend_from_slice(b"\n")?;
+    Ok(text)
+}
+
+fn word_of(op: Op) -> &'static [u8]
+    ensures { result.now ≡ op_word op }
+{
+    match op {
+        Op::Add => b"add",
+        Op::Sub => b"sub",
+        Op::Mul => b"mul",
+        Op::Div => b"div",
+    }
+}
+
+/// A fraction, and a line feed.
+pub fn rational_line(alloc: Global, r: Rat) -> Result<Vec<u8>, AllocError>
+    ensures { IfOk result (λ t. t.items ≡ rational_text (fraction r) ++ codes "\n") }
+{
+    let number = print_rat(alloc, r)?;
+    let mut text = Vec::from_slice(alloc, number.as_slice())?;
+    text.extend_from_slice(b"\n")?;
+    Ok(text)
+}
+
+/// `wide <op> <left> <right>`.
+pub fn wide_text(alloc: Global, w: Wide) -> Result<Vec<u8>, AllocError>
+    ensures { IfOk result (λ t. t.items ≡ wide_line w) }
+{
+    let left = print_rat(alloc, w.left)?;
+    let right = print_rat(alloc, w.right)?;
+    let mut text = Vec::from_slice(alloc, b"wide ")?;
+    text.extend_from_slice(word_of(w.op))?;
+    text.extend_from_slice(b" ")?;
+    text.extend_from_slice(left.as_slice())?;
+    text.extend_from_slice(b" ")?;
+    text.extend_from_slice(right.as_slice())?;
+    text.extend_from_slice(b"\n")?;
+    Ok(text)
+}
+
+fn placed_text(alloc: Global, kind: &[u8], at: u32) -> Result<Vec<u8>, AllocError>
+    ensures { IfOk result (λ t. t.items ≡ placed_line kind.now at) }
+{
+    let mut buffer = Buffer::new();
+    let mut text = Vec::from_slice(alloc, b"refused ")?;
+    text.extend_from_slice(kind)?;
+    text.extend_from_slice(b" at ")?;
+    text.extend_from_slice(buffer.format(at).as_bytes())?;
+    text.extend_from_slice(b" item 1\n")?;
+    Ok(text)
+}
+
+/// Why the text isn't read.
+pub fn refusal_text(alloc: Global, fault: ReadFault) -> Result<Vec<u8>, AllocError>
+    ensures { IfOk result (λ t. (r : Refusal) × (refusal_of fault ≡ Some r) × (t.items ≡ refusal_line r)) }
+{
+    match fault {
+        ReadFault::Long => {
+            let text = Vec::from_slice(alloc, b"refused long item 1\n")?;
+            Ok(text)
+        }
+        ReadFault::Deep { at } => {
+            let text = placed_text(alloc, b"deep", at)?;
+            Ok(text)
+        }
+        ReadFault::Syntax { at } => {
+            let text = placed_text(alloc, b"syntax", at)?;
+            Ok(text)
+        }
+        ReadFault::Numeral { at } => {
+            let text = placed_text(alloc, b"numeral", at)?;
+            Ok(text)
+        }
+        ReadFault::Exponent { at } => {
+            let text = placed_text(alloc, b"exponent", at)?;
+            Ok(text)
+        }
+        ReadFault::Unbound { at } => {
+            let text = placed_text(alloc, b"unbound", at)?;
+            Ok(text)
+        }
+        ReadFault::Form { at } => {
+            let text = placed_text(alloc, b"form", at)?;
+            Ok(text)
+        }
+        ReadFault::Memory(want) => Err(want),
+    }
+}

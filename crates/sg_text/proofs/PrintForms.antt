@@ -4,13 +4,13 @@
 --   bad         the calls of `pow` whose first argument is none of its constants
 --   Bad         a text pays nothing, and holds none
 --   in_form     a placed tree without fault is in reader's form
---   form_of     a tree that some text reads as is
+--   form_of     a tree that some text reads as is, and so is what a reader answers (read_form)
 use Rattle.std.specs.Prelude.{◌≡◌, ◌==◌, ℕ, zero, suc, ◌+◌, ◌≤◌, pos, ◌≤ℤ◌, unsigned_abs, Bool, true, false, not, cond, ◌&&◌, ◌||◌, List, [], ◌∷◌, ◌++◌}
 use Rattle.std.proofs.Common.{refl, subst, ap, ◌∙◌, arith}
 use Rattle.std.proofs.lemmas.Int.{ints}
 use Rattle.sg_spec.specs.Tree.{Tree, numeral, here, param, div, power}
 use Rattle.sg_spec.specs.Syntax.{Spot, Placed, number, named, negated, added, subtracted, multiplied, divided, raised, sum_call, product_call, harmonic, harmonic_of_order, factorial, binomial, constant_power}
-use Rattle.sg_spec.specs.Reading.{is_variable, is_parameter, is_known, inside, signed, tree_in, is_polynomial, is_divisor, is_constant, is_small, Kind, exponent_fault, unbound, form, unlimited, fault_unless, bound_faults, call_faults, Fault, faults, HasTree}
+use Rattle.sg_spec.specs.Reading.{is_variable, is_parameter, is_known, inside, signed, tree_in, is_polynomial, is_divisor, is_constant, is_small, Kind, exponent_fault, unbound, form, unlimited, fault_unless, bound_faults, call_faults, Fault, faults, HasTree, Bounds, IsRead}
 use Rattle.sg_spec.specs.Printing.{has_parameter, IsPrintable, is_polynomial_tree, is_divisor_tree, is_constant_tree, InForm}
 use Rattle.sg_text.specs.declared.printing.Level.{Level}
 use Rattle.sg_text.specs.declared.printing.Level.TheVariants.{Sum, Term, Factor, Atom}
@@ -372,6 +372,10 @@ form_of names e (w, r) =
     let k : bad r.placed ≤ paid 0 w = owed Bad w r.placed r.has_tree in
     let z : paid 0 w ≡ 0 = paid-nothing w in
     subst (λ q. InForm (has_parameter names) false q) r.meaning (in_form false names r.placed r.no_fault (omega arith))
+
+-- so is what a reader answers
+pub read_form : (bounds : Bounds) (names w : List ℕ) (e : Tree) → IsRead bounds names w e → InForm (has_parameter names) false e
+read_form bounds names w e r = form_of names e (w, r.reads)
 
 pub parens_paid : (w : List ℕ) (t : Placed) → HasTree w t → parens t ≤ paid 1 w
 unfolding Parens

@@ -1,9 +1,9 @@
 //! The printed form of expressions.
-ghost use Rattle.std.specs.Prelude.{◌≡◌, ◌++◌, ◌∷◌, [], ◌<◌, ℕ, ℤ, List, get_or, IfOk, OnOk, decimal, unsigned_abs};
+ghost use Rattle.std.specs.Prelude.{◌≡◌, ◌++◌, ◌∷◌, [], ◌<◌, ℕ, ℤ, List, false, get_or, IfOk, OnOk, decimal, unsigned_abs};
 ghost use Rattle.sg_spec.specs.Syntax.{Placed};
 ghost use Rattle.sg_spec.specs.Tree.{Tree, add, div, sum_from, prod_from};
 ghost use Rattle.sg_spec.specs.Reading.{Bounds, Reads, IsRead};
-ghost use Rattle.sg_spec.specs.Printing.{SparesBound, IsPrintable, is_constant_tree, IsShort, KeepsBounds, HasFewest, NoBlank};
+ghost use Rattle.sg_spec.specs.Printing.{SparesBound, has_parameter, is_constant_tree, InForm, IsShort, KeepsBounds, HasFewest, NoBlank};
 ghost use Rattle.sg_text.specs.Reads.{IsFree};
 ghost use Rattle.sg_text.specs.PrintedText.{next_bound, sign_of, is_one, is_numeral, is_here, is_minus_here, power_order, harmonic_order, is_falling, is_quotient, body_form, product_form, written, written_sum, left_of, level_of, is_below, text_at, added_text, limit_text, call_text, plain, printed};
 ghost use Rattle.sg_expr.specs.Tree.{tree_of};
@@ -236,11 +236,11 @@ fn is_below(own: Level, wanted: Level) -> bool
 
 /// The text of an expression in one or two letters: the first names the variable, the second the parameter, and bound names
 /// are j and i in turn. It has no blanks, no parentheses that could be left out, and the shorthands wherever the tree is
-/// exactly theirs. The error is want of memory.
+/// exactly theirs. The tree has to be one that some text reads as. The error is want of memory.
 pub fn print(alloc: Global, e: &Expr, free: &[u8]) -> Result<Row<u8>, AllocError>
     requires letters { IsFree free.now }
     requires apart { SparesBound free.now }
-    requires form { IsPrintable free.now (tree_of e.now) }
+    requires form { InForm (has_parameter free.now) false (tree_of e.now) }
     ensures text { IfOk result (λ w. w ≡ printed free.now (tree_of e.now)) }
     ensures reads_back { IfOk result (λ w. Reads w free.now (tree_of e.now)) }
     ensures only { IfOk result (λ w. (f : Tree) → Reads w free.now f → f ≡ tree_of e.now) }
@@ -477,6 +477,7 @@ mod tests {
     }
 
     // What is printed of what is read, or nothing where the text isn't read.
+    #[tactic(auto, using(crate::proofs::PrintForms::read_form))]
     fn printed_again(alloc: Global, text: &[u8]) -> Result<Option<Row<u8>>, AllocError> {
         match read(alloc, text, b"kn", &wide()) {
             Ok(e) => Ok(Some(print(alloc, &e, b"kn")?)),
@@ -586,6 +587,7 @@ mod tests {
     }
 
     // Whether the text of what is read reads as the same, or nothing where the text isn't read.
+    #[tactic(auto, using(crate::proofs::PrintForms::read_form))]
     fn reads_back(alloc: Global, text: &[u8]) -> Result<Option<bool>, AllocError> {
         match read(alloc, text, b"kn", &wide()) {
             Ok(e) => {

@@ -2,13 +2,12 @@ use Rattle.std.proofs.Common.{List, ℕ, false, sym, subst}
 use Rattle.std.specs.Prelude.{◌≡◌}
 use Rattle.sg_spec.specs.Tree.{Tree}
 use Rattle.sg_spec.specs.Reading.{Reads}
-use Rattle.sg_spec.specs.Printing.{SparesBound, IsPrintable, has_parameter, InForm, IsShort, HasFewest, NoBlank}
+use Rattle.sg_spec.specs.Printing.{SparesBound, has_parameter, InForm, IsShort, HasFewest, NoBlank}
 use Rattle.sg_text.specs.Reads.{IsFree}
 use Rattle.sg_text.specs.PrintedText.{printed}
 use Rattle.sg_expr.specs.Tree.{tree_of}
 use Rattle.sg_text.proofs.PrintReads.{reads-printed}
 use Rattle.sg_text.proofs.PrintBounds.{is_read}
-use Rattle.sg_text.proofs.PrintForms.{form_of}
 use Rattle.sg_text.proofs.PrintFewest.{printed-fewest}
 use Rattle.sg_text.proofs.PrintBlanks.{printed-blanks}
 use Rattle.sg_text.proofs.Unique.{Reads-unique}
@@ -19,9 +18,8 @@ record IsPrinted (w names : List ℕ) (e : Tree) : Type 0 where
   fewest : HasFewest w names e
   no_blank : NoBlank w
 
-printed_is : (w names : List ℕ) (e : Tree) → w ≡ printed names e → IsFree names → SparesBound names → IsPrintable names e → IsShort e → IsPrinted w names e
-printed_is w names e is h k p s =
-    let f : InForm (has_parameter names) false e = form_of names e p in
+printed_is : (w names : List ℕ) (e : Tree) → w ≡ printed names e → IsFree names → SparesBound names → InForm (has_parameter names) false e → IsShort e → IsPrinted w names e
+printed_is w names e is h k f s =
     subst (λ q. IsPrinted q names e) (sym is)
     (record { reads = reads-printed names e h k f s; fewest = printed-fewest names e h s; no_blank = printed-blanks names e (has_parameter names) h f s })
 

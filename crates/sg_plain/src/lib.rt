@@ -14,3 +14,6 @@ mod terms;
 mod whole;
 
 pub use closed::closed_form;
+
+#[cfg(test)]
+mod tests;

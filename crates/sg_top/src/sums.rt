@@ -1,7 +1,7 @@
-ghost use Rattle.std.specs.Prelude.{◌≡◌, ◌↔◌, ℕ, List, IfOk, IsTrue, codes, true, false};
+ghost use Rattle.std.specs.Prelude.{◌≡◌, ◌↔◌, ℕ, List, IfOk, IsTrue, codes, false};
 ghost use Rattle.sg_expr.specs.Tree.{tree_of};
 ghost use Rattle.sg_spec.specs.Plain.{IsPlain};
-ghost use Rattle.sg_spec.specs.Printing.{InForm, IsShort};
+ghost use Rattle.sg_spec.specs.Printing.{InForm};
 ghost use Rattle.sg_spec.specs.Reading.{Reads};
 ghost use Rattle.sg_top.specs.Answer.{IsTaken, IsSumReply};
 ghost use Rattle.sg_top.specs.Texts.{closed_line};
@@ -31,34 +31,12 @@ fn is_plain(e: &Expr) -> bool
     }
 }
 
-// The numbers of an expression have at most 64 digits, since they fit 128 bits.
-fn is_short(e: &Expr) -> bool
-    ensures short { IsShort (tree_of e.now) }
-    ensures yes { result ≡ true }
-{
-    match e {
-        Expr::Num(n) => {
-            let _n = *n;
-            true
-        }
-        Expr::Here | Expr::Param => true,
-        Expr::Add(a, b) | Expr::Mul(a, b) | Expr::Div(a, b) => is_short(a) && is_short(b),
-        Expr::Neg(a) => is_short(a),
-        Expr::Pow(a, exponent) => {
-            let _exponent = *exponent;
-            is_short(a)
-        }
-        Expr::Sum { from: _, body } | Expr::Prod { from: _, body } => is_short(body),
-    }
-}
-
 // The line of a closed form.
 fn closed_reply(alloc: Global, h: &Expr, a: i64) -> Result<Reply, AllocError>
     requires { InForm false false (tree_of h.now) }
     ensures text { IfOk result (λ r. (closed : List ℕ) × Reads closed (codes "m") (tree_of h.now) × (r.text.items ≡ closed_line closed a)) }
     ensures status { IfOk result (λ r. r.status ≡ Status.Done) }
 {
-    let _ = is_short(h);
     let closed = print(alloc, h, b"m")?;
     let text = closed_text(alloc, closed.as_slice(), a)?;
     Ok(Reply {

@@ -1,5 +1,5 @@
 use crate::{Poly, Poly2};
-use sg_num::{Field, Rat, Row, Stop};
+use sg_num::{Rat, Row, Stop};
 use std::alloc::Global;
 
 // The polynomial of these whole coefficients.
@@ -8,65 +8,103 @@ fn whole(alloc: Global, list: &[i128]) -> Result<Poly<Rat>, Stop> {
     for n in list {
         row.push(Rat::whole(*n))?;
     }
-    Poly::from_coeffs(alloc, row)
+    let p = Poly::from_coeffs(alloc, row)?;
+    Ok(p)
 }
 
 // Whether p is the polynomial of these coefficients.
 fn is(p: &Poly<Rat>, list: &[i128]) -> bool {
-    let mut same = p.coeffs().len() == list.len();
-    for (i, n) in list.iter().enumerate() {
-        if let Some(c) = p.coeff(i) {
-            same = same && *c == Rat::whole(*n);
-        } else {
-            same = false;
+    let coeffs = p.coeffs();
+    if coeffs.len() != list.len() {
+        return false;
+    }
+    for i in 0..list.len() {
+        if i >= coeffs.len() || coeffs[i] != Rat::whole(list[i]) {
+            return false;
         }
     }
-    same
+    true
 }
 
-fn known(alloc: Global) -> Result<[bool; 8], Stop> {
-    let square = whole(alloc, &[0, 0, 1, 0])?;
-    let next = whole(alloc, &[1, 1])?;
-    let (quotient, rest) = if next.is_zero() {
-        (square.copy(alloc)?, next.copy(alloc)?)
-    } else {
-        square.div_rem(alloc, &next)?
-    };
-    let divided = is(&quotient, &[-1, 1]) && is(&rest, &[1]);
-    let minus = whole(alloc, &[-1, 0, 1])?;
-    let plus = whole(alloc, &[1, 2, 1])?;
-    let common = if minus.is_zero() {
-        minus.copy(alloc)?
-    } else {
-        minus.gcd(alloc, &plus)?
-    };
-    let shifted = square.shift_by(alloc, 1)?;
-    let value = whole(alloc, &[1, 0, 1])?.eval(alloc, &Rat::whole(2))?;
-    let product = next.mul(alloc, &minus)?;
-    let scaled = next.scale(alloc, &Rat::whole(-3))?;
-    Ok([
-        divided,
-        is(&common, &[1, 1]),
-        is(&shifted, &[1, 2, 1]),
-        value == Rat::whole(5),
-        is(&product, &[-1, -1, 1, 1]),
-        is(&scaled, &[-3, -3]) && next.degree() == Some(1),
-        is(&plus.sub(alloc, &plus)?, &[]) && is(&next.add(alloc, &next)?, &[2, 2]),
-        plus.same(alloc, &shifted)? && !plus.same(alloc, &minus)?,
-    ])
+// The answers of the calls of two polynomials.
+fn combined(alloc: Global, p: &Poly<Rat>, q: &Poly<Rat>, call: u8) -> Result<Poly<Rat>, Stop> {
+    match call {
+        0 => p.add(alloc, q),
+        1 => p.sub(alloc, q),
+        2 => p.mul(alloc, q),
+        3 => {
+            if p.is_zero() {
+                return Ok(p.copy(alloc)?);
+            }
+            p.gcd(alloc, q)
+        }
+        4 => p.scale(alloc, &Rat::whole(3)),
+        5 => {
+            if p.is_zero() {
+                return Ok(p.copy(alloc)?);
+            }
+            p.monic(alloc)
+        }
+        6 => p.shift_by(alloc, 1),
+        _ => p.copy(alloc),
+    }
+}
+
+fn answers(alloc: Global, p: &[i128], q: &[i128], call: u8, want: &[i128]) -> Result<bool, Stop> {
+    let p = whole(alloc, p)?;
+    let q = whole(alloc, q)?;
+    let r = combined(alloc, &p, &q, call)?;
+    let w = whole(alloc, want)?;
+    let same = r.same(alloc, &w)?;
+    Ok(same && is(&r, want))
 }
 
 #[test]
 fn computes_known_answers(rt: HostRuntime) {
-    match known(rt.alloc()) {
-        Ok(seen) => assert_eq!(rt; seen, [true; 8]),
-        Err(_) => assert!(rt; false),
+    let cases: [([i128; 3], [i128; 3], u8, &[i128]); 8] = [
+        ([1, 2, 0], [0, 1, 0], 0, &[1, 3]),
+        ([1, 2, 0], [0, 1, 0], 1, &[1, 1]),
+        ([1, 2, 0], [0, 1, 0], 2, &[0, 1, 2]),
+        ([-1, 0, 1], [1, 2, 1], 3, &[1, 1]),
+        ([1, 2, 0], [0, 1, 0], 4, &[3, 6]),
+        ([4, 2, 0], [0, 1, 0], 5, &[2, 1]),
+        ([0, 0, 1], [0, 1, 0], 6, &[1, 2, 1]),
+        ([1, 2, 0], [0, 1, 0], 7, &[1, 2]),
+    ];
+    for (p, q, call, want) in cases {
+        assert!(rt;
+            matches!(answers(rt.alloc(), &p, &q, call, want), Ok(true)),
+            "{call}"
+        );
     }
 }
 
-fn plane(alloc: Global) -> Result<Option<Rat>, Stop> {
+fn divided(alloc: Global) -> Result<bool, Stop> {
+    let p = whole(alloc, &[0, 0, 1])?;
+    let w = whole(alloc, &[1, 1])?;
+    if w.is_zero() {
+        return Ok(false);
+    }
+    let (quotient, rest) = p.div_rem(alloc, &w)?;
+    Ok(is(&quotient, &[-1, 1]) && is(&rest, &[1]))
+}
+
+fn evaluated(alloc: Global) -> Result<bool, Stop> {
+    let p = whole(alloc, &[1, 0, 1])?;
+    let v = p.eval(alloc, &Rat::whole(2))?;
+    Ok(v == Rat::whole(5))
+}
+
+#[test]
+fn divides_and_evaluates(rt: HostRuntime) {
+    assert!(rt; matches!(divided(rt.alloc()), Ok(true)));
+    assert!(rt; matches!(evaluated(rt.alloc()), Ok(true)));
+}
+
+// k - n - 1 at n = 2 and k = 1
+fn plane(alloc: Global) -> Result<bool, Stop> {
     let mut rows = Row::new(alloc);
-    for row in [[1, 0, 3], [0, 2, 0], [0, 0, 0]] {
+    for row in [[-1, -1, 0], [1, 0, 0], [0, 0, 0]] {
         let mut list = Row::new(alloc);
         for n in row {
             list.push(n)?;
@@ -75,17 +113,13 @@ fn plane(alloc: Global) -> Result<Option<Rat>, Stop> {
     }
     let p = Poly2::from_rows(alloc, rows)?;
     if p.rows().len() != 2 {
-        return Ok(None);
+        return Ok(false);
     }
-    let v = p.value(5, 7)?;
-    Ok(Some(v))
+    let v = p.value(2, 1)?;
+    Ok(v == Rat::whole(-2))
 }
 
-// 1 + 3 n^2 + 2 n k at n = 5 and k = 7
 #[test]
 fn has_values_in_two_variables(rt: HostRuntime) {
-    match plane(rt.alloc()) {
-        Ok(v) => assert_eq!(rt; v, Some(Rat::whole(146))),
-        Err(_) => assert!(rt; false),
-    }
+    assert!(rt; matches!(plane(rt.alloc()), Ok(true)));
 }

@@ -4,7 +4,7 @@ set -u
 cd "$(dirname "$0")/.." || exit 1
 sigma=crates/sigma/out/sigma
 [ -x "$sigma" ] || { echo "no $sigma"; exit 1; }
-long=$(for i in $(seq 1 580); do printf 'k^4-3*k'; [ "$i" -lt 580 ] && printf '+'; done | cut -c1-4093)
+long=$(for i in $(seq 1 371); do printf '123456*k^4+'; done; printf '1')
 python3 - "$sigma" "$long" <<'PY'
 import resource, subprocess, sys, time
 sigma, long = sys.argv[1], sys.argv[2]

@@ -37,6 +37,7 @@ pub mod Data
 pub mod Sums
 pub mod Polynomial
 pub mod Place
+pub mod Places
 pub mod Rows
 pub mod Tables
 pub mod Linear

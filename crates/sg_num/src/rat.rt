@@ -13,20 +13,28 @@ pub struct Rat {
     pub ghost lowest: { gcd (unsigned_abs num) (unsigned_abs den) ≡ 1 },
 }
 
-// The greatest common divisor, by Euclid's divisions.
-#[tactic(auto, using(sg_algebra::proofs::Divisor::gcd_step, sg_algebra::proofs::Divisor::gcd_end, sg_algebra::proofs::Divisor::gcd_positive))]
+// The greatest common divisor, by Euclid's divisions; the last of them, by 1, is not done.
+#[tactic(auto, using(sg_algebra::proofs::Divisor::gcd_step, sg_algebra::proofs::Divisor::gcd_end, sg_algebra::proofs::Divisor::gcd_one_right, sg_algebra::proofs::Divisor::gcd_positive))]
 fn gcd_of(a: u128, b: u128) -> u128
     ensures value { result ≡ gcd a b }
     ensures some { 0 < b → 0 < result }
 {
     let mut x = a;
     let mut y = b;
-    while y != 0 {
+    while y > 1 {
         let rest = x % y;
         x = y;
         y = rest;
     }
-    x
+    if y == 1 { 1 } else { x }
+}
+
+// The quotient. By 1, as with whole numbers, nothing is divided.
+fn divided(a: u128, by: u128) -> u128
+    requires { 0 < by }
+    ensures { result ≡ a / by }
+{
+    if by == 1 { a } else { a / by }
 }
 
 // The number of this sign and size, where it fits.
@@ -54,6 +62,9 @@ fn scaled(n: i128, by: u128) -> Option<i128>
     ensures value { IfSome result (λ z. z ≡ n *ℤ pos by) }
     ensures fits { IsSome result ↔ IsTrue (fits_num (n *ℤ pos by)) }
 {
+    if by == 1 {
+        return Some(n);
+    }
     n.checked_mul(by as i128)
 }
 
@@ -147,7 +158,7 @@ impl Rat {
         let below = den.unsigned_abs();
         let common = gcd_of(size, below);
         let negative = signs_differ(num < 0, den < 0);
-        Rat::lowest(negative, size / common, below / common)
+        Rat::lowest(negative, divided(size, common), divided(below, common))
     }
 
     /// The whole number n as a fraction.
@@ -326,9 +337,9 @@ impl Rat {
         let below = self.below();
         let other_below = other.below();
         let common = gcd_of(below, other_below);
-        let scale = other_below / common;
+        let scale = divided(other_below, common);
         let left = scaled(self.num, scale)?;
-        let right = scaled(other.num, below / common)?;
+        let right = scaled(other.num, divided(below, common))?;
         let den = multiplied(below, scale)?;
         Some(Common { left, right, den })
     }
@@ -341,7 +352,7 @@ impl Rat {
     {
         let size = num.unsigned_abs();
         let common = gcd_of(size, den);
-        Rat::lowest(num < 0, size / common, den / common).unwrap()
+        Rat::lowest(num < 0, divided(size, common), divided(den, common)).unwrap()
     }
 
     // The product of a / b and c / d, each in lowest terms, with this sign.
@@ -353,8 +364,8 @@ impl Rat {
     {
         let left = gcd_of(a, d);
         let right = gcd_of(c, b);
-        let size = (a / left).checked_mul(c / right)?;
-        let below = (b / right).checked_mul(d / left)?;
+        let size = divided(a, left).checked_mul(divided(c, right))?;
+        let below = divided(b, right).checked_mul(divided(d, left))?;
         Rat::lowest(negative, size, below)
     }
 

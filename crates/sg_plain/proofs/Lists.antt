@@ -9,7 +9,7 @@ use Rattle.sg_algebra.proofs.Value.{Value, ◌+ᵛ◌, ◌*ᵛ◌, neg_value, ze
 use Rattle.sg_algebra.proofs.ValueField.{ValueR}
 use Rattle.sg_algebra.proofs.Rational.{whole_value}
 use Rattle.sg_num.specs.Value.{fraction, number}
-use Rattle.sg_num.proofs.Numbers.{number-whole}
+use Rattle.sg_num.proofs.Numbers.{number-whole, number-zero}
 use Rattle.sg_spec.specs.Fraction.{whole}
 use Rattle.std.proofs.lemmas.List.{at_drop_all}
 use Rattle.sg_num.specs.declared.rat.Rat.{Rat}
@@ -69,7 +69,33 @@ shifted-value p result start z x e f g =
     ap (λ l. value_at l x) (e ∙ ap (λ l. l ++ p) f)
     ∙ ap (λ v. v +ᵛ x *ᵛ value_at p x) (number-whole z (pos 0) g) ∙ ring (ValueR 0) (x ∷ value_at p x ∷ []) (search reads depth 16) refl
 
+-- ---- Powers of x
+
+pub zeros-next : (p new : List Rat) (z : Rat) (x : Value 0) → value_at p x ≡ zero_value → new ≡ p ++ (z ∷ []) → fraction z ≡ whole (pos 0) → value_at new x ≡ zero_value
+zeros-next p new z x h is e =
+    ap (λ l. value_at l x) is ∙ value_at-push p z x ∙ ap₂ (λ u v. u +ᵛ pow (ValueR 0) x (length p) *ᵛ v) h (number-whole z (pos 0) e)
+    ∙ ring (ValueR 0) (pow (ValueR 0) x (length p) ∷ []) (search reads depth 16) refl
+
+pub monomial-value : (p r : List Rat) (z : Rat) (e : ℕ) (x : Value 0) → value_at p x ≡ zero_value → length p ≡ e → r ≡ p ++ (z ∷ []) → fraction z ≡ whole (pos 1) → value_at r x ≡ pow (ValueR 0) x e
+monomial-value p r z e x h n is f =
+    ap (λ l. value_at l x) is ∙ value_at-push p z x ∙ ap₂ (λ u v. u +ᵛ pow (ValueR 0) x (length p) *ᵛ v) h (number-whole z (pos 1) f)
+    ∙ ring (ValueR 0) (pow (ValueR 0) x (length p) ∷ []) (search reads depth 16) refl ∙ ap (λ (n : ℕ). pow (ValueR 0) x n) n
+
 -- ---- p q and powers
+
+pub multiple-value : (q r : List Rat) (c : Rat) (x : Value 0) → value_at r x ≡ zero_value +ᵛ number c *ᵛ value_at q x → value_at r x ≡ number c *ᵛ value_at q x
+multiple-value q r c x h = h ∙ ring (ValueR 0) (number c ∷ value_at q x ∷ []) (search reads depth 16) refl
+
+pub times-one : (p rest q r : List Rat) (c : Rat) (x : Value 0) → p ≡ c ∷ rest → length rest ≡ 0 → value_at r x ≡ number c *ᵛ value_at q x → value_at r x ≡ value_at p x *ᵛ value_at q x
+times-one p [] q r c x is e h =
+    h ∙ ring (ValueR 0) (number c ∷ x ∷ value_at q x ∷ []) (search reads depth 16) refl ∙ ap (λ t. value_at t x *ᵛ value_at q x) (sym is)
+times-one p (a ∷ rest) q r c x is e h = absurd (omega arith)
+
+pub times-zero : (p rest q above lent shifted-above : List Rat) (c : Rat) (x : Value 0) → p ≡ c ∷ rest → c.num ≡ pos 0 → value_at above x ≡ value_at rest x *ᵛ value_at q x
+    → lent ≡ above → value_at shifted-above x ≡ x *ᵛ value_at lent x → value_at shifted-above x ≡ value_at p x *ᵛ value_at q x
+times-zero p rest q above lent shifted-above c x is z ha l hs =
+    hs ∙ ap (λ t. x *ᵛ value_at t x) l ∙ ap (λ v. x *ᵛ v) ha ∙ ring (ValueR 0) (x ∷ value_at rest x ∷ value_at q x ∷ []) (search reads depth 16) refl
+    ∙ ap (λ v. (v +ᵛ x *ᵛ value_at rest x) *ᵛ value_at q x) (sym (number-zero c z)) ∙ ap (λ t. value_at t x *ᵛ value_at q x) (sym is)
 
 pub times-step : (x c P Q A S R : Value 0) → A ≡ P *ᵛ Q → S ≡ x *ᵛ A → R ≡ S +ᵛ c *ᵛ Q → R ≡ (c +ᵛ x *ᵛ P) *ᵛ Q
 times-step x c P Q A S R h k l =

@@ -38,6 +38,11 @@ worth-pow t e p lent r k x hp l h =
     worth_cong (val (power t e) (pos 0) k) (pow (ValueR 0) (value_at p x) e) (value_at r x) (sym (h ∙ ap (λ u. pow (ValueR 0) (value_at u x) e) l))
     (worth-power (val t (pos 0) k) (value_at p x) e (val-proper t (pos 0) k) hp)
 
+pub worth-monomial : (r : List Rat) (e : ℕ) (k : ℤ) → ((x : Value 0) → value_at r x ≡ pow (ValueR 0) x e) → Worth (val (power here e) (pos 0) k) (value_at r (whole_value 0 k))
+worth-monomial r e k h =
+    worth_cong (val (power here e) (pos 0) k) (pow (ValueR 0) (whole_value 0 k) e) (value_at r (whole_value 0 k)) (sym (h (whole_value 0 k)))
+    (worth-power (val here (pos 0) k) (whole_value 0 k) e (val-proper here (pos 0) k) (worth-whole k))
+
 pub plain-value : (t : Tree) (k : ℤ) → IsPlain t → (v : Value 0) × Worth (val t (pos 0) k) v
 plain-value (numeral c) k h = (whole_value 0 c, worth-whole c)
 plain-value here k h = (whole_value 0 k, worth-whole k)

@@ -47,7 +47,17 @@ pub fn shifted(alloc: Global, p: &[Rat]) -> Result<Row<Rat>, AllocError>
     Ok(result)
 }
 
+// c p.
+fn multiple(alloc: Global, c: Rat, p: &[Rat]) -> Result<Row<Rat>, Stop>
+    ensures value { IfOk result (λ r. (x : Value 0) → value_at r x ≡ number c *ᵛ value_at p.now x) }
+    ensures wide { IfErr result KeepsWideStep }
+{
+    let all = with_multiple(alloc, &[], c, p)?;
+    Ok(all)
+}
+
 /// p q, by the school's rule.
+#[inline(never)]
 pub fn times(alloc: Global, p: &[Rat], q: &[Rat]) -> Result<Row<Rat>, Stop>
     ensures value { IfOk result (λ r. (x : Value 0) → value_at r x ≡ value_at p.now x *ᵛ value_at q.now x) }
     ensures wide { IfErr result KeepsWideStep }
@@ -55,8 +65,15 @@ pub fn times(alloc: Global, p: &[Rat], q: &[Rat]) -> Result<Row<Rat>, Stop>
     match p.split_first() {
         None => Ok(Row::new(alloc)),
         Some((c, rest)) => {
+            if rest.is_empty() {
+                let all = multiple(alloc, *c, q)?;
+                return Ok(all);
+            }
             let above = times(alloc, rest, q)?;
             let above = shifted(alloc, above.as_slice())?;
+            if c.is_zero() {
+                return Ok(above);
+            }
             let all = with_multiple(alloc, above.as_slice(), *c, q)?;
             Ok(all)
         }
@@ -64,6 +81,7 @@ pub fn times(alloc: Global, p: &[Rat], q: &[Rat]) -> Result<Row<Rat>, Stop>
 }
 
 /// p to the power e.
+#[inline(never)]
 pub fn power(alloc: Global, p: &[Rat], e: u128) -> Result<Row<Rat>, Stop>
     ensures value { IfOk result (λ r. (x : Value 0) → value_at r x ≡ pow (ValueR 0) (value_at p.now x) e) }
     ensures wide { IfErr result KeepsWideStep }
@@ -86,6 +104,7 @@ pub fn constant(alloc: Global, c: Rat) -> Result<Row<Rat>, AllocError>
 }
 
 /// p + q.
+#[inline(never)]
 pub fn added(alloc: Global, p: &[Rat], q: &[Rat]) -> Result<Row<Rat>, Stop>
     ensures value { IfOk result (λ r. (x : Value 0) → value_at r x ≡ value_at p.now x +ᵛ value_at q.now x) }
     ensures wide { IfErr result KeepsWideStep }
@@ -95,6 +114,7 @@ pub fn added(alloc: Global, p: &[Rat], q: &[Rat]) -> Result<Row<Rat>, Stop>
 }
 
 /// -p.
+#[inline(never)]
 pub fn opposite(alloc: Global, p: &[Rat]) -> Result<Row<Rat>, Stop>
     ensures value { IfOk result (λ r. (x : Value 0) → value_at r x ≡ neg_value (value_at p.now x)) }
     ensures wide { IfErr result KeepsWideStep }
@@ -104,6 +124,7 @@ pub fn opposite(alloc: Global, p: &[Rat]) -> Result<Row<Rat>, Stop>
 }
 
 /// The constant 1.
+#[inline(never)]
 pub fn one(alloc: Global) -> Result<Row<Rat>, AllocError>
     ensures { IfOk result (λ r. (x : Value 0) → value_at r x ≡ one_value) }
 {
@@ -111,7 +132,22 @@ pub fn one(alloc: Global) -> Result<Row<Rat>, AllocError>
     Ok(p)
 }
 
+/// The variable to the power e.
+#[inline(never)]
+pub fn monomial(alloc: Global, e: u128) -> Result<Row<Rat>, AllocError>
+    ensures { IfOk result (λ r. (x : Value 0) → value_at r x ≡ pow (ValueR 0) x e) }
+{
+    let mut result = Row::new(alloc);
+    for below in 0..e {
+        let _ = below;
+        result.push(Rat::whole(0))?;
+    }
+    result.push(Rat::whole(1))?;
+    Ok(result)
+}
+
 /// The variable.
+#[inline(never)]
 pub fn variable(alloc: Global) -> Result<Row<Rat>, AllocError>
     ensures { IfOk result (λ r. (x : Value 0) → value_at r x ≡ x) }
 {
@@ -121,6 +157,7 @@ pub fn variable(alloc: Global) -> Result<Row<Rat>, AllocError>
 }
 
 /// The whole number n.
+#[inline(never)]
 pub fn whole(alloc: Global, n: i128) -> Result<Row<Rat>, AllocError>
     ensures { IfOk result (λ r. (x : Value 0) → value_at r x ≡ whole_value 0 n) }
 {

@@ -1,5 +1,4 @@
 -- What a printed text has to be.
---   AreNames            the letters of a text: one or two lower-case ones, which differ
 --   SparesBound         the parameter's letter is none that a printed sum or product binds, which are i and j
 --   has_parameter       whether the second letter is given
 --   IsPrintable         reader's form: some text reads as the tree
@@ -17,15 +16,6 @@ use Rattle.std.specs.Prelude.{◌≡◌, ◌≢◌, ◌==◌, ℕ, ◌+◌, ◌�
 use Rattle.sg_spec.specs.Tree.{Tree, numeral, here, param, add, neg, mul, div, power, sum_from, prod_from}
 use Rattle.sg_spec.specs.Syntax.{Placed, number, named, negated, added, subtracted, multiplied, divided, raised, sum_call, product_call, harmonic, harmonic_of_order, factorial, binomial, constant_power}
 use Rattle.sg_spec.specs.Reading.{is_small, Limits, Bounds, KeepsSize, HasTree, Reads}
-
-abbrev pub IsLetter : ℕ → Type 0
-IsLetter c = (97 ≤ c) × (c ≤ 122)
-
-abbrev pub AreNames : List ℕ → Type 0
-AreNames [] = ⊥
-AreNames (v ∷ []) = IsLetter v
-AreNames (v ∷ (p ∷ [])) = IsLetter v × IsLetter p × (v ≢ p)
-AreNames (v ∷ (p ∷ (q ∷ more))) = ⊥
 
 abbrev pub SparesBound : List ℕ → Type 0
 SparesBound [] = Unit {0}

@@ -1,4 +1,5 @@
-//! The expression of a node, with the shorthands written out.
+//! The expression of a node, with the shorthands written out. What `expr_of` calls stays a call, so that its own frame, of
+//! which there is one for each level of a text, is small.
 ghost use Rattle.std.specs.Prelude.{◌≡◌, ◌<◌, ◌≤◌, ◌^◌, pos, IfOk};
 ghost use Rattle.sg_spec.specs.Tree.{add, neg, mul, div, power, sum_from, prod_from, numeral, here};
 ghost use Rattle.sg_spec.specs.Reading.{signed, harmonic_sum, binomial_product, tree_in};
@@ -44,6 +45,7 @@ fn lower_limit(head: Head) -> i64
     if head.sign.value == 0 { size } else { -size }
 }
 
+#[inline(never)]
 fn sum_over(alloc: Global, from: i64, body: Expr) -> Result<Expr, AllocError>
     ensures { IfOk result (λ e. tree_of e ≡ sum_from from (tree_of body)) }
 {
@@ -51,6 +53,7 @@ fn sum_over(alloc: Global, from: i64, body: Expr) -> Result<Expr, AllocError>
     Ok(Expr::Sum { from, body })
 }
 
+#[inline(never)]
 fn product_over(alloc: Global, from: i64, body: Expr) -> Result<Expr, AllocError>
     ensures { IfOk result (λ e. tree_of e ≡ prod_from from (tree_of body)) }
 {
@@ -58,6 +61,7 @@ fn product_over(alloc: Global, from: i64, body: Expr) -> Result<Expr, AllocError
     Ok(Expr::Prod { from, body })
 }
 
+#[inline(never)]
 fn added(alloc: Global, x: Expr, y: Expr) -> Result<Expr, AllocError>
     ensures { IfOk result (λ e. tree_of e ≡ add (tree_of x) (tree_of y)) }
 {
@@ -66,6 +70,7 @@ fn added(alloc: Global, x: Expr, y: Expr) -> Result<Expr, AllocError>
     Ok(Expr::Add(x, y))
 }
 
+#[inline(never)]
 fn negated(alloc: Global, x: Expr) -> Result<Expr, AllocError>
     ensures { IfOk result (λ e. tree_of e ≡ neg (tree_of x)) }
 {
@@ -73,6 +78,7 @@ fn negated(alloc: Global, x: Expr) -> Result<Expr, AllocError>
     Ok(Expr::Neg(x))
 }
 
+#[inline(never)]
 fn multiplied(alloc: Global, x: Expr, y: Expr) -> Result<Expr, AllocError>
     ensures { IfOk result (λ e. tree_of e ≡ mul (tree_of x) (tree_of y)) }
 {
@@ -81,6 +87,7 @@ fn multiplied(alloc: Global, x: Expr, y: Expr) -> Result<Expr, AllocError>
     Ok(Expr::Mul(x, y))
 }
 
+#[inline(never)]
 fn divided(alloc: Global, x: Expr, y: Expr) -> Result<Expr, AllocError>
     ensures { IfOk result (λ e. tree_of e ≡ div (tree_of x) (tree_of y)) }
 {
@@ -89,6 +96,7 @@ fn divided(alloc: Global, x: Expr, y: Expr) -> Result<Expr, AllocError>
     Ok(Expr::Div(x, y))
 }
 
+#[inline(never)]
 fn raised(alloc: Global, x: Expr, e: u128) -> Result<Expr, AllocError>
     ensures { IfOk result (λ t. tree_of t ≡ power (tree_of x) e) }
 {
@@ -97,6 +105,7 @@ fn raised(alloc: Global, x: Expr, e: u128) -> Result<Expr, AllocError>
 }
 
 /// The sum of the reciprocals of the powers of this order.
+#[inline(never)]
 fn harmonic(alloc: Global, order: u128) -> Result<Expr, AllocError>
     ensures { IfOk result (λ e. tree_of e ≡ harmonic_sum order) }
 {
@@ -109,6 +118,7 @@ fn harmonic(alloc: Global, order: u128) -> Result<Expr, AllocError>
 }
 
 /// The product of (x+1-j)/j.
+#[inline(never)]
 fn binomial(alloc: Global, x: Expr) -> Result<Expr, AllocError>
     ensures { IfOk result (λ e. tree_of e ≡ binomial_product (tree_of x)) }
 {

@@ -1,12 +1,14 @@
-use Rattle.std.proofs.Common.{FitsSigned, Some, rules, sym}
+use Rattle.std.proofs.Common.{◌≡◌, FitsSigned, Some, pos, rules, subst, sym}
 use Rattle.std.specs.Int.{w128}
 use Rattle.std.proofs.lemmas.Int.{to_z-of_z}
 use Rattle.sg_algebra.proofs.Rational.{whole_value}
 use Rattle.sg_expr.specs.Tree.{tree_of}
 use Rattle.sg_spec.specs.Fraction.{whole}
+use Rattle.sg_spec.specs.Tree.{Tree, here, power}
+use Rattle.sg_spec.specs.Value.{val}
 use Rattle.sg_plain.specs.Evaluation.{value_at}
-use Rattle.sg_plain.proofs.Trees.{worth-add, worth-mul, worth-neg, worth-pow, worth-unexpanded}
-use Rattle.sg_values.proofs.Worth.{worth-whole, worth_cong}
+use Rattle.sg_plain.proofs.Trees.{worth-add, worth-mul, worth-neg, worth-pow, worth-monomial, worth-unexpanded}
+use Rattle.sg_values.proofs.Worth.{Worth, worth-whole, worth_cong}
 use Rattle.sg_plain.proofs.coefficients.+coefficients.Goals as goal
 
 pub returns-in_ok-p-in-Num-clause-value : goal.returns-in_ok-p-in-Num-clause-value
@@ -39,7 +41,14 @@ returns-then-e-eq0-clause-value t c = λ k.
     let plain = rw c.in-Pow.is at c.requires in
     rw (c.in-Pow.is, c.if-e-eq0.true) (worth-unexpanded (tree_of c.in-Pow.a.value) c.in_ok-unit-in-Pow.unit k (whole_value 0 k) plain (c.in_ok-unit-in-Pow.ensures (whole_value 0 k)))
 
+pub returns-then-is_variable-clause-value : goal.returns-then-is_variable-clause-value
+returns-then-is_variable-clause-value t c = λ k.
+    let lent : tree_of c.deref-in-Pow.result.now ≡ here = search rules in
+    let variable : tree_of c.in-Pow.a.value ≡ here = rw c.deref-in-Pow.ensures at lent in
+    rw c.in-Pow.is
+    (subst (λ (u : Tree). Worth (val (power u c.in-Pow.e) (pos 0) k) (value_at c.in_ok-term-in-Pow.term (whole_value 0 k))) (sym variable) (worth-monomial c.in_ok-term-in-Pow.term c.in-Pow.e k c.in_ok-term-in-Pow.ensures))
+
 pub returns-in_ok-all-in-Pow-clause-value : goal.returns-in_ok-all-in-Pow-clause-value
 returns-in_ok-all-in-Pow-clause-value t c = λ k. rw c.in-Pow.is
     (worth-pow (tree_of c.in-Pow.a.value) c.in-Pow.e c.in_ok-p-in-Pow.p c.as_slice-in-Pow.result.now c.in_ok-all-in-Pow.all k (whole_value 0 k)
-    (rw c.deref-in-Pow.ensures at (c.in_ok-p-in-Pow.ensures.value k)) c.as_slice-in-Pow.ensures (c.in_ok-all-in-Pow.ensures.value (whole_value 0 k)))
+    (rw c.deref-in-Pow-2.ensures at (c.in_ok-p-in-Pow.ensures.value k)) c.as_slice-in-Pow.ensures (c.in_ok-all-in-Pow.ensures.value (whole_value 0 k)))

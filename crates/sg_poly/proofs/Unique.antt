@@ -1,9 +1,8 @@
 -- A division has one quotient and one rest, and a shifted polynomial its values.
 --   division_unique    two divisions of one polynomial by one divisor have equal quotients and equal rests
 --   moved_at           what is the polynomial at k + β has at x the value at x + β
-use Rattle.std.proofs.Common.{◌≡◌, ℕ, suc, ◌<◌, ◌≤◌, ◌-◌, refl, sym, ◌∙◌, ap, List, length, map, arith}
+use Rattle.std.proofs.Common.{◌≡◌, ℕ, suc, ◌≤◌, ◌-◌, refl, sym, ◌∙◌, ap, List, length, arith}
 use Rattle.sg_algebra.specs.Coefficients.{zip_longest, poly_mul, eval}
-use Rattle.sg_algebra.proofs.Lists.{length_map}
 use Rattle.sg_algebra.proofs.Evaluation.{eval_cong}
 use Rattle.sg_algebra.proofs.Degree.{Below, Degree}
 use Rattle.sg_algebra.proofs.Division.{divide_unique}

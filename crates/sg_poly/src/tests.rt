@@ -1,5 +1,5 @@
 use crate::{Poly, Poly2};
-use sg_num::{Field, Rat, Row, Stop};
+use sg_num::{Rat, Row, Stop};
 use std::alloc::Global;
 
 // The polynomial of these whole coefficients.
@@ -158,12 +158,12 @@ fn is_divided(alloc: Global, a: &[i128], b: &[i128]) -> Result<bool, Stop> {
         return Ok(true);
     }
     let (quotient, rest) = a.div_rem(alloc, &b)?;
-    let product = quotient.mul(alloc, &b)?;
-    let sum = product.add(alloc, &rest)?;
-    sum.same(alloc, &a)
+    let back = quotient.mul(alloc, &b)?.add(alloc, &rest)?;
+    back.same(alloc, &a)
 }
 
-fn is_multiple<F: Field>(alloc: Global, p: &Poly<F>, g: &Poly<F>) -> Result<bool, Stop> {
+// Whether g divides p.
+fn is_multiple(alloc: Global, p: &Poly<Rat>, g: &Poly<Rat>) -> Result<bool, Stop> {
     if g.is_zero() {
         return Ok(false);
     }
@@ -171,17 +171,28 @@ fn is_multiple<F: Field>(alloc: Global, p: &Poly<F>, g: &Poly<F>) -> Result<bool
     Ok(rest.is_zero())
 }
 
-// Whether the greatest common divisor of a c and b c divides both, and c divides it.
-fn has_divisor(alloc: Global, a: &[i128], b: &[i128], c: &[i128]) -> Result<bool, Stop> {
-    let factor = whole(alloc, c)?;
-    let p = whole(alloc, a)?.mul(alloc, &factor)?;
-    let q = whole(alloc, b)?.mul(alloc, &factor)?;
+// a times c.
+fn product(alloc: Global, a: &[i128], c: &Poly<Rat>) -> Result<Poly<Rat>, Stop> {
+    let p = whole(alloc, a)?;
+    p.mul(alloc, c)
+}
+
+// Whether the greatest common divisor of p and q divides both, and c divides it.
+fn is_common(alloc: Global, p: &Poly<Rat>, q: &Poly<Rat>, c: &Poly<Rat>) -> Result<bool, Stop> {
     if p.is_zero() {
         return Ok(true);
     }
-    let g = p.gcd(alloc, &q)?;
-    let divides = is_multiple(alloc, &p, &g)? && is_multiple(alloc, &q, &g)?;
-    Ok(divides && is_multiple(alloc, &g, &factor)?)
+    let g = p.gcd(alloc, q)?;
+    let divides = is_multiple(alloc, p, &g)? && is_multiple(alloc, q, &g)?;
+    Ok(divides && is_multiple(alloc, &g, c)?)
+}
+
+// The same for a c and b c.
+fn has_divisor(alloc: Global, a: &[i128], b: &[i128], c: &[i128]) -> Result<bool, Stop> {
+    let c = whole(alloc, c)?;
+    let p = product(alloc, a, &c)?;
+    let q = product(alloc, b, &c)?;
+    is_common(alloc, &p, &q, &c)
 }
 
 // Whether the shift by m and then by n is the shift by m + n.

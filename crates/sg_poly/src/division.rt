@@ -1,11 +1,12 @@
-ghost use Rattle.std.specs.Prelude.{◌≡◌, ℕ, suc, ◌+◌, ◌-◌, ◌<◌, ◌≤◌, [], ◌∷◌, length, map, drop, reverse, IfOk, IfErr, ◌↔◌, pos, ℤ};
-ghost use Rattle.sg_algebra.proofs.Value.{◌+ᵛ◌, ◌-ᵛ◌, ◌*ᵛ◌, ◌/ᵛ◌, zero_value, one_value, inv_value};
+ghost use Rattle.std.specs.Prelude.{◌≡◌, ℕ, suc, ◌+◌, ◌-◌, ◌<◌, ◌≤◌, List, [], ◌∷◌, length, map, drop, reverse, IfOk, IfErr, ◌↔◌, pos, ℤ};
+ghost use Rattle.sg_algebra.specs.Coefficients.{eval};
+ghost use Rattle.sg_algebra.proofs.Value.{Value, ◌+ᵛ◌, ◌-ᵛ◌, ◌*ᵛ◌, ◌/ᵛ◌, zero_value, one_value, inv_value};
 ghost use Rattle.sg_algebra.proofs.ValueField.{ValueR};
 ghost use Rattle.sg_algebra.proofs.Rational.{whole_value};
 ghost use Rattle.sg_algebra.proofs.Shift.{moved};
 ghost use Rattle.sg_algebra.proofs.Polynomial.{Polynomial, poly, coefficient, ◌+ᵖ◌, ◌*ᵖ◌, zero_polynomial, constant, EndsNonzero};
 ghost use Rattle.sg_num.specs.Stopped.{KeepsWideStep};
-ghost use Rattle.sg_poly.specs.Divisors.{◌∣ᵖ◌, IsMonic, IsGcd};
+ghost use Rattle.sg_poly.specs.Divisors.{◌∣ᵖ◌, IsMonic, IsDivision, IsGcd};
 
 use crate::poly::Poly;
 use sg_num::{Field, Rat, Row, Stop};
@@ -140,6 +141,7 @@ impl<F: Field> Poly<F> {
         requires { ¬ (poly (map F.val other.now) ≡ zero_polynomial) }
         ensures value { IfOk result (λ r. poly (map F.val self.now) ≡ poly (map F.val r.0) *ᵖ poly (map F.val other.now) +ᵖ poly (map F.val r.1)) }
         ensures smaller { IfOk result (λ r. length r.1 < length other.now) }
+        ensures unique { IfOk result (λ r. (q s : List (Value F.vars)) → IsDivision (map F.val self.now) (map F.val other.now) q s → (poly q ≡ poly (map F.val r.0)) × (poly s ≡ poly (map F.val r.1))) }
         ensures wide { IfErr result KeepsWideStep }
     {
         let parts = divided(alloc, self.coeffs(), other.coeffs())?;
@@ -184,6 +186,7 @@ impl<F: Field> Poly<F> {
     /// The polynomial at k + m, by Horner's rule.
     pub fn shift_by(&self, alloc: Global, m: i128) -> Result<Poly<F>, Stop>
         ensures value { IfOk result (λ r. poly (map F.val r) ≡ poly (moved (ValueR F.vars) (whole_value F.vars m) (map F.val self.now))) }
+        ensures at { IfOk result (λ r. (x : Value F.vars) → eval (ValueR F.vars) (map F.val r) x ≡ eval (ValueR F.vars) (map F.val self.now) (x +ᵛ whole_value F.vars m)) }
         ensures wide { IfErr result KeepsWideStep }
     {
         let p = self.coeffs();

@@ -1,10 +1,10 @@
 ghost use Rattle.std.specs.Prelude.{◌≡◌, ◌≢◌, ℕ, suc, ◌<◌, ◌≤◌, [], List, length, get_or, take, IfOk, IfErr, ℤ, pos};
 ghost use Rattle.sg_algebra.proofs.Value.{◌+ᵛ◌, ◌*ᵛ◌};
 ghost use Rattle.sg_algebra.proofs.Rational.{whole_value};
-ghost use Rattle.sg_num.specs.Stopped.{KeepsWideStep, IsTooWide};
+ghost use Rattle.sg_num.specs.Stopped.{IsTooWide};
 ghost use Rattle.sg_num.specs.Value.{number};
 ghost use Rattle.sg_algebra.proofs.Tables.{Each};
-ghost use Rattle.sg_poly.specs.Plane.{entry, row_at, plane_at, IsTrimmed, IsFront};
+ghost use Rattle.sg_poly.specs.Plane.{entry, row_at, plane_at, IsTrimmed, IsFront, IsMemory};
 
 use sg_num::{Rat, Row, Stop, Wide};
 use std::alloc::Global;
@@ -48,7 +48,7 @@ fn length_of(list: &[i128]) -> usize
 // The row without the zeros at its end.
 fn trimmed(alloc: Global, list: &[i128]) -> Result<Row<i128>, Stop>
     ensures value { IfOk result (IsFront list.now) }
-    ensures wide { IfErr result KeepsWideStep }
+    ensures memory { IfErr result IsMemory }
 {
     let n = length_of(list);
     let mut row = Row::new(alloc);
@@ -103,7 +103,7 @@ fn height_of(rows: &[Row<i128>]) -> usize
 // The rows, each without the zeros at its end.
 fn fronts(alloc: Global, rows: &[Row<i128>]) -> Result<Row<Row<i128>>, Stop>
     ensures value { IfOk result (λ new. Each (λ j r. IsFront (get_or rows.now j []) r) (length rows.now) new) }
-    ensures wide { IfErr result KeepsWideStep }
+    ensures memory { IfErr result IsMemory }
 {
     let mut new = Row::new(alloc);
     for i in 0..rows.len() {
@@ -117,7 +117,7 @@ impl Poly2 {
     pub fn from_rows(alloc: Global, rows: Row<Row<i128>>) -> Result<Poly2, Stop>
         ensures value { IfOk result (λ p. (i j : ℕ) → entry p i j ≡ entry rows i j) }
         ensures trimmed { IfOk result IsTrimmed }
-        ensures wide { IfErr result KeepsWideStep }
+        ensures memory { IfErr result IsMemory }
     {
         let mut rows = fronts(alloc, rows.as_slice())?;
         let n = height_of(rows.as_slice());

@@ -101,25 +101,135 @@ fn divides_and_evaluates(rt: HostRuntime) {
     assert!(rt; matches!(evaluated(rt.alloc()), Ok(true)));
 }
 
-// k - n - 1 at n = 2 and k = 1
-fn plane(alloc: Global) -> Result<bool, Stop> {
+// The polynomial of these lists.
+fn plane(alloc: Global, lists: &[[i128; 3]]) -> Result<Poly2, Stop> {
     let mut rows = Row::new(alloc);
-    for row in [[-1, -1, 0], [1, 0, 0], [0, 0, 0]] {
-        let mut list = Row::new(alloc);
-        for n in row {
-            list.push(n)?;
+    for list in lists {
+        let mut row = Row::new(alloc);
+        for n in list {
+            row.push(*n)?;
         }
-        rows.push(list)?;
+        rows.push(row)?;
     }
     let p = Poly2::from_rows(alloc, rows)?;
-    if p.rows().len() != 2 {
-        return Ok(false);
+    Ok(p)
+}
+
+fn rows_are(p: &Poly2, want: &[&[i128]]) -> bool {
+    let rows = p.rows();
+    if rows.len() != want.len() {
+        return false;
     }
+    for i in 0..want.len() {
+        if i >= rows.len() || rows.get(i).as_slice() != want[i] {
+            return false;
+        }
+    }
+    true
+}
+
+// k - n - 1, with zeros at the ends: its lists, and its value at n = 2 and k = 1
+fn has_rows_and_value(alloc: Global) -> Result<bool, Stop> {
+    let p = plane(alloc, &[[-1, -1, 0], [1, 0, 0], [0, 0, 0]])?;
     let v = p.value(2, 1)?;
-    Ok(v == Rat::whole(-2))
+    Ok(rows_are(&p, &[&[-1, -1], &[1]]) && v == Rat::whole(-2))
 }
 
 #[test]
 fn has_values_in_two_variables(rt: HostRuntime) {
-    assert!(rt; matches!(plane(rt.alloc()), Ok(true)));
+    assert!(rt; matches!(has_rows_and_value(rt.alloc()), Ok(true)));
+}
+
+// Four whole numbers from -3 to 3: the next of a list that the first state fixes.
+fn drawn(state: &mut u32) -> [i128; 4] {
+    let mut list = [0i128; 4];
+    for n in list.iter_mut() {
+        *state = state.wrapping_mul(1664525).wrapping_add(1013904223);
+        *n = (*state >> 16) as i128 % 7 - 3;
+    }
+    list
+}
+
+// Whether the quotient of a by b, times b, and the rest make a.
+fn is_divided(alloc: Global, a: &[i128], b: &[i128]) -> Result<bool, Stop> {
+    let a = whole(alloc, a)?;
+    let b = whole(alloc, b)?;
+    if b.is_zero() {
+        return Ok(true);
+    }
+    let (quotient, rest) = a.div_rem(alloc, &b)?;
+    let back = quotient.mul(alloc, &b)?.add(alloc, &rest)?;
+    back.same(alloc, &a)
+}
+
+// Whether g divides p.
+fn is_multiple(alloc: Global, p: &Poly<Rat>, g: &Poly<Rat>) -> Result<bool, Stop> {
+    if g.is_zero() {
+        return Ok(false);
+    }
+    let (_, rest) = p.div_rem(alloc, g)?;
+    Ok(rest.is_zero())
+}
+
+// a times c.
+fn product(alloc: Global, a: &[i128], c: &Poly<Rat>) -> Result<Poly<Rat>, Stop> {
+    let p = whole(alloc, a)?;
+    p.mul(alloc, c)
+}
+
+// Whether the greatest common divisor of p and q divides both, and c divides it.
+fn is_common(alloc: Global, p: &Poly<Rat>, q: &Poly<Rat>, c: &Poly<Rat>) -> Result<bool, Stop> {
+    if p.is_zero() {
+        return Ok(true);
+    }
+    let g = p.gcd(alloc, q)?;
+    let divides = is_multiple(alloc, p, &g)? && is_multiple(alloc, q, &g)?;
+    Ok(divides && is_multiple(alloc, &g, c)?)
+}
+
+// The same for a c and b c.
+fn has_divisor(alloc: Global, a: &[i128], b: &[i128], c: &[i128]) -> Result<bool, Stop> {
+    let c = whole(alloc, c)?;
+    let p = product(alloc, a, &c)?;
+    let q = product(alloc, b, &c)?;
+    is_common(alloc, &p, &q, &c)
+}
+
+// Whether the shift by m and then by n is the shift by m + n.
+fn shifts_add(alloc: Global, a: &[i128], m: i8, n: i8) -> Result<bool, Stop> {
+    let p = whole(alloc, a)?;
+    let first = p.shift_by(alloc, m as i128)?;
+    let both = first.shift_by(alloc, n as i128)?;
+    let once = p.shift_by(alloc, m as i128 + n as i128)?;
+    both.same(alloc, &once)
+}
+
+#[test]
+fn keeps_the_laws_of_division(rt: HostRuntime) {
+    let mut state = 1u32;
+    for _ in 0..16u32 {
+        let a = drawn(&mut state);
+        let b = drawn(&mut state);
+        let c = drawn(&mut state);
+        assert!(rt;
+            matches!(is_divided(rt.alloc(), &a, &b), Ok(true)),
+            "{a:?} over {b:?}"
+        );
+        assert!(rt;
+            matches!(has_divisor(rt.alloc(), &a, &b, &c), Ok(true)),
+            "{a:?} and {b:?}, both times {c:?}"
+        );
+    }
+}
+
+#[test]
+fn shifts_add_up(rt: HostRuntime) {
+    let mut state = 2u32;
+    for (m, n) in [(1, 1), (2, -3), (-5, 4), (7, -7), (0, 6)] {
+        let a = drawn(&mut state);
+        assert!(rt;
+            matches!(shifts_add(rt.alloc(), &a, m, n), Ok(true)),
+            "{a:?} by {m} and by {n}"
+        );
+    }
 }

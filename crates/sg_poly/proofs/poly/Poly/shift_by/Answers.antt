@@ -8,6 +8,7 @@ use Rattle.sg_algebra.proofs.Shift.{moved}
 use Rattle.sg_algebra.proofs.Polynomial.{poly, constant, ◌+ᵖ◌, ◌*ᵖ◌}
 use Rattle.sg_algebra.proofs.Rows.{drop_step, drop_all}
 use Rattle.sg_poly.proofs.Shifting.{moved-cons, whole_rational}
+use Rattle.sg_poly.proofs.Unique.{moved_at}
 use Rattle.sg_poly.proofs.poly.Poly.shift_by.Goals as goal
 
 pub loop-i-init : goal.loop-i-init
@@ -35,3 +36,6 @@ returns-clause-value g c =
     c.trimmed.ensures.value ∙ (rw z at c.loop-i.invariant.value)
     ∙ ap (λ β. poly (moved (ValueR d) β (map v c.coeffs-p.result.now))) (c.in_ok-by.ensures.value ∙ ap (λ (x : Fraction). rational_value d x.num x.den) w ∙ whole_rational c.args.m)
     ∙ ap (λ p. poly (moved (ValueR d) (whole_value d c.args.m) (map v p))) c.coeffs-p.ensures.value
+
+pub returns-clause-at : goal.returns-clause-at
+returns-clause-at g c = moved_at (whole_value g.F.Field.vars c.args.m) (map g.F.Field.val c.args.self.now) (map g.F.Field.val c.trimmed.result) (returns-clause-value g c)

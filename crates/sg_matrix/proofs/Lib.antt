@@ -1,0 +1,5 @@
+pub mod Leads
+pub mod Places
+pub mod Spans
+pub mod Adding
+pub mod Solutions

@@ -11,9 +11,9 @@ use Rattle.std.proofs.Common.{◌≡◌, ℕ, ◌+◌, ◌<◌, ◌≤◌, refl,
 use Rattle.sg_algebra.proofs.Solver.{ring, by, scale, reads}
 use Rattle.sg_algebra.proofs.Lists.{length_map}
 use Rattle.sg_algebra.proofs.Value.{Value, zero_value, one_value, ◌-ᵛ◌, ◌*ᵛ◌, neg_value, inv_value}
-use Rattle.sg_algebra.proofs.ValueField.{ValueR, value_mul-inv, value_one_ne, zero_mul_value, mul_zero_value}
+use Rattle.sg_algebra.proofs.ValueField.{ValueR, value_mul-inv, value_one_ne, zero_mul_value}
 use Rattle.sg_algebra.proofs.Polynomial.{coefficient}
-use Rattle.sg_algebra.proofs.Sums.{sum, sum-zero, sum_unit}
+use Rattle.sg_algebra.proofs.Sums.{sum-zero}
 use Rattle.sg_algebra.proofs.Tables.{Each, past_table, skip, skip_other}
 use Rattle.sg_algebra.proofs.Linear.{Span, vector, unit, table, row}
 use Rattle.sg_algebra.proofs.NullSpace.{axis_one, axis_zero}
@@ -21,7 +21,7 @@ use Rattle.sg_matrix.specs.Systems.{LeadsAt, IsEchelon, IsSystem, SameSpan}
 use Rattle.sg_matrix.specs.Steps.{IsRest, IsAfter}
 use Rattle.sg_matrix.proofs.Leads.{leads_unique}
 use Rattle.sg_matrix.proofs.Places.{spot_of, skip_inside, skip_room, skip_above, skip_below, skip_order, skip_same, unit_skip, spot, spot_own, spot_skip}
-use Rattle.sg_matrix.proofs.Spans.{span_total, span_zero, span_same, span_times, in_table, span_row, span_rows, all_pushed, span_push, span_last}
+use Rattle.sg_matrix.proofs.Spans.{span_total, span_zero, span_same, span_times, span_row, span_rows, span_entry, all_pushed, span_push, span_last}
 
 split : (k n : ℕ) → (k < n) ⊎ (n ≤ k)
 split k n = grind arith
@@ -65,12 +65,7 @@ module _ {K : Type 0} {d : ℕ} (v : K → Value d) where
       ∙ sum-zero (ValueR d) (λ l. coefficient s.coeffs l *ᵛ vector (table v bs) l k) (length (table v bs)) (λ l h. ap (λ x. x *ᵛ vector (table v bs) l k) (none l (omega (arith, length_map (map v) bs))) ∙ zero_mul_value (vector (table v bs) l k))
     where
       none : (i : ℕ) → i < length bs → coefficient s.coeffs i ≡ zero_value
-      none i h = sym here ∙ sym (span_total (table v bs) f s (e.pivot i)) ∙ z i h
-        where
-          here : sum (ValueR d) (λ l. coefficient s.coeffs l *ᵛ vector (table v bs) l (e.pivot i)) (length (table v bs)) ≡ coefficient s.coeffs i
-          here = sum_unit (ValueR d) (λ l. coefficient s.coeffs l *ᵛ vector (table v bs) l (e.pivot i)) (length (table v bs)) i (omega (arith, length_map (map v) bs))
-              (λ l n. ap (λ x. coefficient s.coeffs l *ᵛ x) (in_table v bs l (e.pivot i) ∙ pivot_entry bs e l i h ∙ axis_zero l i n) ∙ mul_zero_value (coefficient s.coeffs l))
-              ∙ by (ValueR d) (coefficient s.coeffs i ∷ vector (table v bs) i (e.pivot i) ∷ []) (scale (ValueR d) (coefficient s.coeffs i) (in_table v bs i (e.pivot i) ∙ pivot_entry bs e i i h ∙ axis_one i i refl)) (search reads depth 16) refl
+      none i h = sym (span_entry v bs e.pivot (pivot_entry bs e) f s i h) ∙ z i h
 
   -- ---- What is left of a row
   pub rest_start : (bs : List (List K)) (given : List K) → IsRest v bs 0 given given

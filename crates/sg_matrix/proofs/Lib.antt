@@ -3,3 +3,4 @@ pub mod Places
 pub mod Spans
 pub mod Adding
 pub mod Solutions
+pub mod Unique

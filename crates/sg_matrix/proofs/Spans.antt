@@ -1,7 +1,7 @@
 -- Combinations of rows, and products of rows and vectors as sums.
 --   total c bs k                      the entry at k of the sum of the vectors bs times c 0, c 1, ..; combined_total, span_of, span_total
 --   span_zero, span_same, span_times  what is spanned: 0, equal vectors, a multiple and a sum
---   span_row, span_rows               each row is spanned; what rows span is spanned where they are
+--   span_row, span_rows, span_entry   each row is spanned; what rows span is spanned where they are; at the places of unit vectors the entries are the constants
 --   row_below, row_last, all_pushed, span_push, span_last    the rows with one more
 --   against w g f                     g 0 f 0 + .. over w places: row_against, against_less
 --   null_span                         what rows send to 0 their combinations send to 0
@@ -133,6 +133,13 @@ module _ {K : Type 0} {d : ℕ} (v : K → Value d) where
   pub span_rows : (ys xs : List (List K)) (f : ℕ → Value d) → ((i : ℕ) → i < length xs → Span (table v ys) (row v xs i)) → Span (table v xs) f → Span (table v ys) f
   span_rows ys xs f m s = span_trans (table v ys) (table v xs) f
       (λ i l. span_same (table v ys) (row v xs i) (vector (table v xs) i) (in_table xs i) (m i (omega (arith, length_map (map v) xs)))) s
+
+  -- at places where the rows are unit vectors the entries are the constants
+  pub span_entry : (bs : List (List K)) (p : ℕ → ℕ) → ((l i : ℕ) → i < length bs → row v bs l (p i) ≡ unit l i) → (f : ℕ → Value d) (s : Span (table v bs) f) (i : ℕ) → i < length bs → f (p i) ≡ coefficient s.coeffs i
+  span_entry bs p u f s i h = span_total (table v bs) f s (p i)
+      ∙ sum_unit (ValueR d) (λ l. coefficient s.coeffs l *ᵛ vector (table v bs) l (p i)) (length (table v bs)) i (omega (arith, length_map (map v) bs))
+      (λ l n. ap (λ x. coefficient s.coeffs l *ᵛ x) (in_table bs l (p i) ∙ u l i h ∙ axis_zero l i n) ∙ mul_zero_value (coefficient s.coeffs l))
+      ∙ by (ValueR d) (coefficient s.coeffs i ∷ vector (table v bs) i (p i) ∷ []) (scale (ValueR d) (coefficient s.coeffs i) (in_table bs i (p i) ∙ u i i h ∙ axis_one i i refl)) (search reads depth 16) refl
 
   pub null_span : (w : ℕ) (xs : List (List K)) (f g : ℕ → Value d) → ((i : ℕ) → i < length xs → length (get_or xs i []) ≡ w) → ((i : ℕ) → i < length xs → row_times (map v (get_or xs i [])) f ≡ zero_value)
       → Span (table v xs) g → against w g f ≡ zero_value

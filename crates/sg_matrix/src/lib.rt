@@ -1,8 +1,14 @@
 //! Linear systems over any field: a basis of the solutions.
 #![tactic(auto)]
 
+mod echelon;
 mod null;
+mod rows;
 mod solution;
+mod vectors;
 
 pub use null::null_basis;
 pub use solution::Solution;
+
+#[cfg(test)]
+mod tests;

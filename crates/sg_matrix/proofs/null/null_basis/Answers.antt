@@ -1,23 +1,25 @@
-use Rattle.std.proofs.Common.{◌∙◌, sym, ap, arith, length}
+use Rattle.std.proofs.Common.{◌≡◌, ◌∙◌, sym, ap, arith, List, [], map, length, get_or}
+use Rattle.sg_algebra.proofs.Polynomial.{coefficient}
 use Rattle.sg_algebra.proofs.Tables.{row_read}
-use Rattle.sg_algebra.proofs.NullSpace.{basis_start, basis_more, axes_form}
+use Rattle.sg_matrix.proofs.Solutions.{held_more, held_null}
 use Rattle.sg_matrix.proofs.null.null_basis.Goals as goal
-
-pub loop-i-init : goal.loop-i-init
-loop-i-init g c = record { basis = basis_start g.F.Field.val c.args.width c.args.rows.now c.in_ok-basis.basis c.in_ok-basis.ensures.value; form = axes_form g.F.Field.val c.args.width c.in_ok-basis.basis c.in_ok-basis.ensures.value }
 
 pub loop-i-preserved : goal.loop-i-preserved
 loop-i-preserved g c =
-    let x = c.get.result.now in
-    let read = row_read c.args.rows.now c.loop-i.i x (omega arith) c.get.ensures in
+    let read : get_or c.args.rows.now c.loop-i.i [] ≡ c.as_slice.result.now = row_read c.args.rows.now c.loop-i.i c.get.result.now (omega arith) c.get.ensures ∙ sym c.as_slice.ensures in
+    let w = c.in_ok-_fresh.ensures.width ∙ c.loop-i.invariant.width in
+    let form = rw w at c.in_ok-_fresh.ensures.form in
     record {
-      basis = basis_more g.F.Field.val c.args.width c.args.rows.now c.loop-i.i c.loop-i.basis c.in_ok-basis-2.basis c.as_slice.result.now (omega arith)
-          (ap length (c.as_slice.ensures ∙ sym read) ∙ c.requires c.loop-i.i (omega arith)) (rw c.as_slice.ensures c.get.ensures) c.loop-i.invariant.basis c.in_ok-basis-2.ensures.value;
-      form = c.in_ok-basis-2.ensures.form c.loop-i.invariant.form;
+      width = w;
+      form = form;
+      held = held_more g.F.Field.val c.args.width c.args.rows.now c.loop-i.i c.loop-i.system.rows c.add_row.new.self.rows c.in_ok-row.row c.loop-i.invariant.form form
+          (c.in_ok-row.ensures.size ∙ sym (ap length read) ∙ c.requires c.loop-i.i (omega arith)) (c.requires c.loop-i.i (omega arith))
+          (λ k. c.in_ok-row.ensures.value k ∙ ap (λ (q : List g.row.F.Denot). coefficient (map g.F.Field.val q) k) (sym read)) c.in_ok-_fresh.ensures.span c.loop-i.invariant.held;
     }
 
 pub returns-clause-sound : goal.returns-clause-sound
-returns-clause-sound g c j h i = c.loop-i.invariant.basis.sent j (omega arith) i
+returns-clause-sound g c j h i = held_null g.F.Field.val c.args.width c.args.rows.now c.loop-i.i c.loop-i.system.rows c.loop-i.invariant.form c.loop-i.invariant.held (coefficient (map g.F.Field.val (get_or c.in_ok-basis.basis i [])))
+    (λ l q. c.in_ok-basis.ensures.sound l q i) j (omega arith) (c.requires j h)
 
 pub returns-clause-complete : goal.returns-clause-complete
-returns-clause-complete g c f z s = c.loop-i.invariant.basis.spans f z (λ j h. s j (omega arith))
+returns-clause-complete g c f z s = c.in_ok-basis.ensures.complete f (λ k q. z k (omega arith)) (c.loop-i.invariant.held.null f (λ j q. s j (omega arith)))

@@ -1,5 +1,0 @@
-use Rattle.sg_algebra.proofs.Tables.{each_push}
-use Rattle.sg_matrix.proofs.null.axes.Goals as goal
-
-pub loop-i-preserved : goal.loop-i-preserved
-loop-i-preserved g c = each_push _ _ _ _ _ c.loop-i.invariant c.in_ok-axis.ensures.value c.in_ok-push.ensures.ok

@@ -1,0 +1,10 @@
+use Rattle.std.proofs.Common.{◌∙◌, sym, arith}
+use Rattle.sg_algebra.proofs.Rows.{builds_push, builds_all, at_read, past_row}
+use Rattle.sg_matrix.proofs.rows.copied.Goals as goal
+
+pub loop-i-preserved : goal.loop-i-preserved
+loop-i-preserved g c = builds_push g.F.Field.val _ _ _ _ _ c.loop-i.invariant
+    (c.in_ok-c.ensures.value ∙ sym (at_read g.F.Field.val c.args.r.now c.loop-i.i c.index-r-i.result (omega arith) c.index-r-i.is)) c.in_ok-push.ensures.ok
+
+pub returns-clause-value : goal.returns-clause-value
+returns-clause-value g c = builds_all g.F.Field.val _ _ _ c.loop-i.invariant (λ k h. past_row g.F.Field.val c.args.r.now k (omega arith))

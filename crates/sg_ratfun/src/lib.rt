@@ -8,3 +8,6 @@ mod ratfun;
 mod split;
 
 pub use ratfun::RatFun;
+
+#[cfg(test)]
+mod tests;

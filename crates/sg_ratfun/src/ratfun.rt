@@ -6,6 +6,7 @@ ghost use Rattle.sg_algebra.proofs.Rational.{whole_value};
 ghost use Rattle.sg_algebra.proofs.Shift.{moved};
 ghost use Rattle.sg_algebra.proofs.Polynomial.{poly, zero_polynomial};
 ghost use Rattle.sg_num.specs.Stopped.{KeepsWideStep};
+ghost use Rattle.sg_poly.specs.Divisors.{IsMonic};
 ghost use Rattle.sg_ratfun.specs.Reduced.{IsReduced};
 
 use crate::parts::{Parts, lowest};
@@ -85,6 +86,7 @@ impl<F: Field> RatFun<F> {
     /// The denominator in lowest terms, which is monic.
     pub fn den(&self, alloc: Global) -> Result<Poly<F>, Stop>
         ensures value { IfOk result (λ p. poly (map F.val p) ≡ poly (map F.val self.now.1)) }
+        ensures monic { IfOk result (λ p. IsMonic (map F.val p)) }
         ensures reduced { IsReduced (map F.val self.now.0) (map F.val self.now.1) }
         ensures wide { IfErr result KeepsWideStep }
     {
@@ -110,6 +112,7 @@ impl<F: Field> RatFun<F> {
     /// The fraction at k + m.
     pub fn shift_by(&self, alloc: Global, m: i128) -> Result<RatFun<F>, Stop>
         ensures value { IfOk result (λ r. over_value (map F.val r.0) (map F.val r.1) ≡ over_value (moved (ValueR F.vars) (whole_value F.vars m) (map F.val self.now.0)) (moved (ValueR F.vars) (whole_value F.vars m) (map F.val self.now.1))) }
+        ensures reduced { IfOk result (λ r. IsReduced (map F.val r.0) (map F.val r.1)) }
         ensures wide { IfErr result KeepsWideStep }
     {
         let num = self.upper().shift_by(alloc, m)?;

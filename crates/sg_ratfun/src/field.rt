@@ -25,7 +25,9 @@ fn constant<F: Field>(alloc: Global, c: F) -> Result<RatFun<F>, Stop>
     Ok(RatFun::of(Parts { num, den }))
 }
 
-/// Rational functions over a field are a field with one variable more.
+/// Rational functions over a field are a field with one variable more. Sums go over the least common denominator, and products
+/// first lose what is common across, as Henrici does with fractions (Knuth, The Art of Computer Programming, 4.5.1), so that
+/// numbers stay small.
 impl<F: Field> Field for RatFun<F> {
     ghost use Rattle.std.specs.Prelude.{suc, map};
     ghost use Rattle.sg_algebra.proofs.Value.{over_value};

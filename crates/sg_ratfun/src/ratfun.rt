@@ -35,7 +35,8 @@ impl<F: Field> Model for RatFun<F> {
 }
 
 impl<F: Field> RatFun<F> {
-    /// The fraction `num / den`, whose denominator isn't 0, in lowest terms.
+    /// The fraction `num / den`, whose denominator isn't 0, in lowest terms: without the greatest common divisor, which Euclid's
+    /// divisions find, and with a monic denominator.
     pub fn new(alloc: Global, num: Poly<F>, den: Poly<F>) -> Result<RatFun<F>, Stop>
         requires { ¬ (poly (map F.val den) ≡ zero_polynomial) }
         ensures value { IfOk result (λ r. over_value (map F.val r.0) (map F.val r.1) ≡ over_value (map F.val num) (map F.val den)) }

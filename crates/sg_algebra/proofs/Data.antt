@@ -7,6 +7,7 @@
 --   zero_meaning              the value is zero only where the datum is equal to 0
 --   decide_datum              so equality of valid data is decided
 --   entry_is                  the coefficient's value is the coefficient of the values
+--   lower_some, upper_some    the denominator isn't the zero polynomial, and the numerator isn't where the datum isn't 0
 use Rattle.std.proofs.Common.{◌≡◌, ◌≢◌, ℕ, zero, suc, ◌<◌, refl, sym, ◌∙◌, ap, ap₂, List, [], ◌∷◌, map, inl, inr, ℤ, pos, unsigned_abs, mul-pos, arith}
 use Rattle.std.proofs.lemmas.Int.{ints}
 use Rattle.sg_algebra.specs.Coefficients.{coef, Each, conv}
@@ -233,3 +234,9 @@ decide_datum d x y g h = elim (value_same d (meaning d x) (meaning d y)) [ yes e
 
 pub entry_is : (d : ℕ) (p : List (Datum d)) (n : ℕ) → meaning d (entry d p n) ≡ coef (ValueR d) (map (meaning d) p) n
 entry_is d p n = entry_meaning d (meaningful d) p n
+
+pub lower_some : (d : ℕ) (x : Datum (suc d)) → Valid (suc d) x → ¬ ((PolyR (ValueR d)).◌≈◌ (map (meaning d) x.1) [])
+lower_some d = lower_ne d (meaningful d)
+
+pub upper_some : (d : ℕ) (x : Datum (suc d)) → Valid (suc d) x → ¬ (meaning (suc d) x ≡ zero_value) → ¬ ((PolyR (ValueR d)).◌≈◌ (map (meaning d) x.0) [])
+upper_some d = upper_ne d (meaningful d)

@@ -38,6 +38,7 @@ pub mod Sums
 pub mod Polynomial
 pub mod Place
 pub mod Places
+pub mod Nonzero
 pub mod Rows
 pub mod Tables
 pub mod Linear

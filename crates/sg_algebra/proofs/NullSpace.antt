@@ -6,7 +6,7 @@
 --   IsAxis, axis_built, axes_table     the unit vectors as rows
 --   IsBasis, basis_start, basis_more   a basis of what the rows so far send to 0
 --   axes_form, cleared_form            it stays in reduced form
-use Rattle.std.proofs.Common.{◌≡◌, ℕ, zero, suc, ◌+◌, ◌-◌, ◌<◌, ◌≤◌, refl, sym, ◌∙◌, ap, ap₂, List, [], ◌∷◌, ◌++◌, map, length, take, drop, get_or, ◌⊎◌, inl, inr, arith}
+use Rattle.std.proofs.Common.{◌≡◌, ℕ, zero, suc, ◌+◌, ◌<◌, ◌≤◌, refl, sym, ◌∙◌, ap, ap₂, List, [], ◌∷◌, map, length, get_or, ◌⊎◌, inl, inr, arith}
 use Rattle.sg_algebra.proofs.Solver.{ring, by, scale, reads}
 use Rattle.sg_algebra.proofs.Lists.{length_map}
 use Rattle.sg_algebra.proofs.Value.{Value, zero_value, one_value, ◌+ᵛ◌, ◌-ᵛ◌, ◌*ᵛ◌, neg_value, inv_value}

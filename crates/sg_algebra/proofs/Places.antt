@@ -5,8 +5,9 @@
 --   has_add, has_neg, has_sub, has_mul, has_div    sums, opposites, differences and products have a value wherever both sides have one, and quotients where besides
 --                    the value of the divisor isn't 0; it is that of the values
 --   last_same        lists with a last item
+--   pairwise_left, pairwise_right      two lists in a row, pairwise
 --   pairwise-..      the values of the coefficients of sums, opposites and products
-use Rattle.std.proofs.Common.{◌≡◌, ℕ, zero, suc, ◌+◌, refl, sym, ◌∙◌, ap, ap₂, subst, List, [], ◌∷◌, ◌++◌, map, length, ℤ, arith}
+use Rattle.std.proofs.Common.{◌≡◌, ℕ, zero, suc, ◌+◌, refl, sym, ◌∙◌, ap, ap₂, subst, List, [], ◌∷◌, ◌++◌, map, take, drop, length, ℤ, arith}
 use Rattle.std.proofs.lemmas.List.{length-append}
 use Rattle.sg_algebra.specs.Coefficients.{zip_longest, poly_mul}
 use Rattle.sg_algebra.proofs.Solver.{ring, by, scale, reads}
@@ -41,6 +42,17 @@ last_same (a ∷ xs) (b ∷ ys) x y e = let r = last_same xs ys x y (ap tail e) 
     tail : {A : Type 0} → List A → List A
     tail [] = []
     tail (b ∷ bs) = bs
+
+module _ {A B : Type 0} (R : A → B → Type 0) where
+  pub pairwise_left : (xs ys : List A) (vs : List B) → Pairwise R (xs ++ ys) vs → Pairwise R xs (take (length xs) vs)
+  pairwise_left [] ys vs p = tt
+  pairwise_left (x ∷ xs) ys [] p = p
+  pairwise_left (x ∷ xs) ys (v ∷ vs) p = (p.0, pairwise_left xs ys vs p.1)
+
+  pub pairwise_right : (xs ys : List A) (vs : List B) → Pairwise R (xs ++ ys) vs → Pairwise R ys (drop (length xs) vs)
+  pairwise_right [] ys vs p = p
+  pairwise_right (x ∷ xs) ys [] p = absurd p
+  pairwise_right (x ∷ xs) ys (v ∷ vs) p = pairwise_right xs ys vs p.1
 
 -- ---- Coefficients with values
 

@@ -1,5 +1,4 @@
 -- A probe of a list of fractions of polynomials.
---   pairwise_left, pairwise_right      two lists in a row, pairwise
 --   pairwise_length, pairwise_push     as many; one pair more
 --   pairwise_map, map_pairwise         pairwise with a list mapped
 --   moved_over        an item goes from the front of one list to the end of another
@@ -15,6 +14,7 @@ use Rattle.sg_algebra.proofs.ValueField.{ValueR}
 use Rattle.sg_algebra.proofs.Rational.{whole_value}
 use Rattle.sg_algebra.proofs.Lists.{length_map}
 use Rattle.sg_algebra.proofs.Place.{Pairwise, HasValue}
+use Rattle.sg_algebra.proofs.Places.{pairwise_left, pairwise_right}
 use Rattle.sg_algebra.proofs.Polynomial.{poly, zero_polynomial}
 use Rattle.sg_poly.proofs.Dividers.{monic_some}
 use Rattle.sg_ratfun.specs.Reduced.{IsReduced}
@@ -25,16 +25,6 @@ use Rattle.sg_num.specs.declared.rat.Rat.{Rat}
 use Rattle.sg_ratfun.specs.Gathered.{coefficients, ItemsAt}
 
 module _ {A B : Type 0} (R : A → B → Type 0) where
-  pub pairwise_left : (xs ys : List A) (vs : List B) → Pairwise R (xs ++ ys) vs → Pairwise R xs (take (length xs) vs)
-  pairwise_left [] ys vs p = tt
-  pairwise_left (x ∷ xs) ys [] p = p
-  pairwise_left (x ∷ xs) ys (v ∷ vs) p = (p.0, pairwise_left xs ys vs p.1)
-
-  pub pairwise_right : (xs ys : List A) (vs : List B) → Pairwise R (xs ++ ys) vs → Pairwise R ys (drop (length xs) vs)
-  pairwise_right [] ys vs p = p
-  pairwise_right (x ∷ xs) ys [] p = absurd p
-  pairwise_right (x ∷ xs) ys (v ∷ vs) p = pairwise_right xs ys vs p.1
-
   pub pairwise_length : (xs : List A) (vs : List B) → Pairwise R xs vs → length xs ≡ length vs
   pairwise_length [] [] p = refl
   pairwise_length [] (v ∷ vs) p = absurd p

@@ -1,7 +1,7 @@
 #!/usr/bin/env bash
 # Times products and greatest common divisors of polynomials over the fractions, at degrees 4, 16 and 64. Not part of the gate.
-# It writes a program into a copy of the crates in a temporary folder, builds it there, and prints the time of one call and what
-# the answer is: how many coefficients it has, or `wide` where a step doesn't fit 128 bits.
+# It writes a program into a copy of the crates in a temporary folder, builds it there, and prints the processor's time for one call
+# and what the answer is: how many coefficients it has, or `wide` where a step doesn't fit 128 bits.
 #   mul       (k+1)^d times itself: the coefficients are binomials, up to 2.4*10^37 at degree 64
 #   gcd       (k+1)^c (k^a-1) and (k+1)^c (k^b-1), where a and b follow each other in Fibonacci's list and c + a = d: many divisions, by dense divisors
 #   coprime   two polynomials of degree d with coefficients from -9 to 9 without a pattern
@@ -116,11 +116,14 @@ R
 cd "$room/crates/polynomials"
 rt run -- mul 4 1 > "$room/log" 2>&1 || { tail -n 40 "$room/log"; exit 1; }
 python3 - out/polynomials <<'PY'
-import subprocess, sys, time
+import resource, subprocess, sys
+def spent():
+    used = resource.getrusage(resource.RUSAGE_CHILDREN)
+    return used.ru_utime + used.ru_stime
 def run(kind, degree, times):
-    start = time.perf_counter()
+    before = spent()
     done = subprocess.run([sys.argv[1], kind, str(degree), str(times)], capture_output=True, text=True, check=True)
-    return time.perf_counter() - start, done.stdout.strip()
+    return spent() - before, done.stdout.strip()
 for kind, times in (('mul', {4: 20000, 16: 2000, 64: 100}), ('gcd', {4: 20000, 16: 2000, 64: 200}), ('coprime', {4: 20000, 16: 2000, 64: 200})):
     for degree, n in times.items():
         once, answer = min(run(kind, degree, 1) for _ in range(5))

@@ -3,20 +3,20 @@
 --   at_past, at-take           the coefficient past the end is 0; those of a front part
 --   at_read, past_row          the coefficient that is read at a place of a row; past its end
 --   Builds v target n xs       the row xs has n items, and they are `target k` for each k below n
---   builds_none, builds_push, builds_all, builds_poly    it begins empty, and grows by a push; in the end all coefficients, or the polynomial, are the target's
+--   builds_push, builds_all, builds_poly    it grows by a push; in the end all coefficients, or the polynomial, are the target's
 --   sum_built, difference_built, scaled_built, copied_built, product_built    what polynomial the finished row is
 --   ZerosFrom v n xs           each coefficient from n on is 0
 --   zeros_past, zeros_more, cut_same, cut_ends    zeros at the end, found from the last item on; what is left when they are cut off
 --   zero_row, row_zero         the zero polynomial is the empty row
 --   Product v p q n j sum      `sum` is the coefficient at n of the product of q and the items of p from j on
---   product_start, product_more, product_all    it grows by one product
+--   product_more               it grows by one product
 --   drop_step                  the items from j on are the item at j and those from j + 1 on
 --   agree_more, agree_all      rows with equal coefficients so far; so all are equal
 --   lengths_same               equal polynomials without zeros at the end have as many coefficients
 --   drop_at, dropped_built     the coefficients from a place on, and a row that is built of them
 --   behind_at                  the coefficient that is read in a row behind one item more
 --   last_nonzero, last_read    the last coefficient of a polynomial that isn't 0
-use Rattle.std.proofs.Common.{◌≡◌, ℕ, zero, suc, ◌+◌, ◌-◌, ◌<◌, ◌≤◌, refl, sym, ◌∙◌, ap, ap₂, ◌≢◌, max, min, List, [], ◌∷◌, ◌++◌, map, length, take, drop, get_or, ◌⊎◌, inl, inr, arith}
+use Rattle.std.proofs.Common.{◌≡◌, ℕ, zero, suc, ◌+◌, ◌-◌, ◌<◌, ◌≤◌, refl, sym, ◌∙◌, ap, ap₂, ◌≢◌, max, List, [], ◌∷◌, ◌++◌, map, length, take, drop, get_or, ◌⊎◌, inl, inr, arith}
 use Rattle.sg_algebra.specs.Coefficients.{zip_longest, poly_mul}
 use Rattle.sg_algebra.proofs.Ring.{neg_O, mul_O}
 use Rattle.sg_algebra.proofs.Lists.{length_map}
@@ -58,9 +58,6 @@ module _ {K : Type 0} {d : ℕ} (v : K → Value d) where
   pub record Builds (target : ℕ → Value d) (n : ℕ) (xs : List K) : Type 0 where
     pub size : length xs ≡ n
     pub built : (k : ℕ) → k < n → coefficient (map v xs) k ≡ target k
-
-  pub builds_none : (target : ℕ → Value d) → Builds target 0 []
-  builds_none target = record { size = refl; built = λ k h. absurd (omega arith) }
 
   below_push : (xs : List K) (c : K) (k : ℕ) → k < length xs → coefficient (map v (xs ++ c ∷ [])) k ≡ coefficient (map v xs) k
   below_push [] c k h = absurd (omega arith)
@@ -226,14 +223,6 @@ module _ {K : Type 0} {d : ℕ} (v : K → Value d) where
     pub part : (m : ℕ) → n ≡ j + m → sum ≡ coefficient (poly_mul (ValueR d) (map v (drop j p)) q) m
     pub none : n < j → sum ≡ zero_value
 
-  pub product_start : (p : List K) (q : List (Value d)) (n j : ℕ) (sum : Value d) → j ≡ min (length p) (n + 1) → sum ≡ zero_value → Product p q n j sum
-  product_start p q n j sum e z = record {
-    within = omega arith;
-    near = omega arith;
-    part = λ m h. z ∙ sym (ap (λ s. coefficient (poly_mul (ValueR d) (map v s) q) m) (drop_all j p (omega arith)));
-    none = λ h. z;
-  }
-
   pub product_more : (p : List K) (q : List (Value d)) (n j k : ℕ) (x : K) (sum new : Value d) → Product p q n j sum → j ≡ suc k → x ≡ get_or p k x → new ≡ v x *ᵛ coefficient q (n - k) +ᵛ sum → Product p q n k new
   product_more p q n j k x sum new b e r s = record {
     within = omega (arith, b.within);
@@ -244,9 +233,6 @@ module _ {K : Type 0} {d : ℕ} (v : K → Value d) where
     where
       minus : (m : ℕ) → n ≡ k + m → n - k ≡ m
       minus m h = omega arith
-
-  pub product_all : (p : List K) (q : List (Value d)) (n : ℕ) (sum : Value d) → Product p q n 0 sum → sum ≡ coefficient (poly_mul (ValueR d) (map v p) q) n
-  product_all p q n sum b = b.part n (omega arith)
 
   -- ---- Going down a row: from the last item to the first
 

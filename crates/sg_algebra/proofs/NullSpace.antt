@@ -1,6 +1,6 @@
 -- Products of rows and vectors, and the unit vectors.
 --   row_times_cong, row_times_zero    the product of a row and equal vectors; of a row and 0
---   axis_one, axis_zero               the entries of a unit vector
+--   axis_one, axis_zero, axis_skip    the entries of a unit vector; where a place is left out, `unit (skip p i) (skip p j)` is `unit i j`
 --   table_at, past_row_dot            a row of a table of values; past the end of a table the product is 0
 --   zero_less                         0 - t 0 = 0
 use Rattle.std.proofs.Common.{◌≡◌, ℕ, zero, suc, ◌≤◌, refl, ap, ap₂, List, [], ◌∷◌, map, length, get_or}
@@ -36,7 +36,7 @@ module _ {d : ℕ} where
   pub axis_zero : (o k : ℕ) → ¬ (o ≡ k) → unit {d = d} o k ≡ zero_value
   axis_zero o k n = axis_other o k n
 
-  axis_skip : (p i j : ℕ) → unit {d = d} (skip p i) (skip p j) ≡ unit i j
+  pub axis_skip : (p i j : ℕ) → unit {d = d} (skip p i) (skip p j) ≡ unit i j
   axis_skip zero i j = refl
   axis_skip (suc p) zero zero = refl
   axis_skip (suc p) zero (suc j) = refl

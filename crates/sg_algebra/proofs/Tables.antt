@@ -1,6 +1,6 @@
 -- Lists of rows: facts of each row, and places past one that is left out.
 --   Each P n xs          there are n rows, and P j holds of the row j for each j below n
---   each_push            it grows by a push
+--   each_push            it grows by a push: get_below, get_last, push_size
 --   row_read, past_table the row that is read at a place; past the end it is empty
 --   skip p i             the place of the item i where the place p is left out: i below p, else one more; skip_other
 use Rattle.std.proofs.Common.{◌≡◌, ℕ, zero, suc, ◌+◌, ◌<◌, ◌≤◌, refl, sym, List, [], ◌∷◌, ◌++◌, length, get_or, ◌⊎◌, inl, inr, arith}
@@ -11,18 +11,18 @@ module _ {K : Type 0} where
     pub size : length xs ≡ n
     pub each : (j : ℕ) → j < n → P j (get_or xs j [])
 
-  get_below : (xs : List (List K)) (c : List K) (j : ℕ) → j < length xs → get_or (xs ++ c ∷ []) j [] ≡ get_or xs j []
+  pub get_below : (xs : List (List K)) (c : List K) (j : ℕ) → j < length xs → get_or (xs ++ c ∷ []) j [] ≡ get_or xs j []
   get_below [] c j h = absurd (omega arith)
   get_below (x ∷ xs) c zero h = refl
   get_below (x ∷ xs) c (suc j) h = get_below xs c j (omega arith)
 
-  get_last : (xs : List (List K)) (c : List K) (j : ℕ) → j ≡ length xs → get_or (xs ++ c ∷ []) j [] ≡ c
+  pub get_last : (xs : List (List K)) (c : List K) (j : ℕ) → j ≡ length xs → get_or (xs ++ c ∷ []) j [] ≡ c
   get_last [] c zero h = refl
   get_last [] c (suc j) h = absurd (omega arith)
   get_last (x ∷ xs) c zero h = absurd (omega arith)
   get_last (x ∷ xs) c (suc j) h = get_last xs c j (omega arith)
 
-  push_size : (xs : List (List K)) (c : List K) → length (xs ++ c ∷ []) ≡ length xs + 1
+  pub push_size : (xs : List (List K)) (c : List K) → length (xs ++ c ∷ []) ≡ length xs + 1
   push_size [] c = refl
   push_size (x ∷ xs) c = omega (arith, push_size xs c)
 

@@ -16,11 +16,11 @@ use Rattle.sg_algebra.proofs.Polynomial.{coefficient}
 use Rattle.sg_algebra.proofs.Sums.{sum-zero}
 use Rattle.sg_algebra.proofs.Tables.{Each, past_table, skip, skip_other}
 use Rattle.sg_algebra.proofs.Linear.{Span, vector, unit, table, row}
-use Rattle.sg_algebra.proofs.NullSpace.{axis_one, axis_zero}
+use Rattle.sg_algebra.proofs.NullSpace.{axis_one, axis_zero, axis_skip}
 use Rattle.sg_matrix.specs.Systems.{LeadsAt, IsEchelon, IsSystem, SameSpan}
 use Rattle.sg_matrix.specs.Steps.{IsRest, IsAfter}
 use Rattle.sg_matrix.proofs.Leads.{leads_unique}
-use Rattle.sg_matrix.proofs.Places.{spot_of, skip_inside, skip_room, skip_above, skip_below, skip_order, skip_same, unit_skip, spot, spot_own, spot_skip}
+use Rattle.sg_matrix.proofs.Places.{spot_of, skip_inside, skip_room, skip_above, skip_below, skip_order, skip_same, spot, spot_own, spot_skip}
 use Rattle.sg_matrix.proofs.Spans.{span_total, span_zero, span_same, span_times, span_row, span_rows, span_entry, all_pushed, span_push, span_last}
 
 split : (k n : ℕ) → (k < n) ⊎ (n ≤ k)
@@ -163,7 +163,7 @@ module _ {K : Type 0} {d : ℕ} (v : K → Value d) (bs new : List (List K)) (gi
   one_at i k l h (inr s) (inr t) = rw (s.1, t.1, spot_skip place j e.pivot t.0) (old_row s.0 (inside_of i s.0 l s.1) (e.pivot t.0)
       ∙ by (ValueR d) (row v bs s.0 (e.pivot t.0) ∷ row v bs s.0 j ∷ inv_value (coefficient (map v rest) j) ∷ coefficient (map v rest) (e.pivot t.0) ∷ [])
       (scale (ValueR d) (neg_value (row v bs s.0 j *ᵛ inv_value (coefficient (map v rest) j))) (rest_at t.0 (inside_of k t.0 h t.1))) (search reads depth 20) refl
-      ∙ e.one s.0 t.0 (inside_of i s.0 l s.1) (inside_of k t.0 h t.1) ∙ sym (unit_skip place s.0 t.0))
+      ∙ e.one s.0 t.0 (inside_of i s.0 l s.1) (inside_of k t.0 h t.1) ∙ sym (axis_skip place s.0 t.0))
 
   rises : (i k : ℕ) → i < k → k < length new → (i ≡ place) ⊎ ((m : ℕ) × (i ≡ skip place m)) → (k ≡ place) ⊎ ((m : ℕ) × (k ≡ skip place m)) → spot place j e.pivot i < spot place j e.pivot k
   rises i k l h (inl s) (inl t) = absurd (omega arith)

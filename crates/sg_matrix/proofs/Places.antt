@@ -1,11 +1,9 @@
 -- The places of a list when an item is put in at the place a: the item i goes to `skip a i`.
 --   spot_of             each place is a, or where an old item went; skip_inside, skip_room: within bounds
 --   skip_above, skip_below, skip_order    the order of places is that of the old ones; skip_same, skip_low, skip_high
---   unit_skip           unit vectors
 --   spot a j p          the function p with j put in at a: spot_own, spot_skip
 use Rattle.std.proofs.Common.{◌≡◌, ℕ, zero, suc, ◌+◌, ◌<◌, ◌≤◌, refl, ap, ◌⊎◌, inl, inr, arith}
 use Rattle.sg_algebra.proofs.Tables.{skip}
-use Rattle.sg_algebra.proofs.Linear.{unit}
 
 pub spot_of : (a i : ℕ) → (i ≡ a) ⊎ ((m : ℕ) × (i ≡ skip a m))
 spot_of zero zero = inl refl
@@ -63,13 +61,6 @@ pub skip_high : (a m : ℕ) → a ≤ m → suc m ≡ skip a m
 skip_high zero m h = refl
 skip_high (suc a) zero h = absurd (omega arith)
 skip_high (suc a) (suc m) h = ap suc (skip_high a m (omega arith))
-
-pub unit_skip : {d : ℕ} (a i j : ℕ) → unit {d = d} (skip a i) (skip a j) ≡ unit i j
-unit_skip zero i j = refl
-unit_skip (suc a) zero zero = refl
-unit_skip (suc a) zero (suc j) = refl
-unit_skip (suc a) (suc i) zero = refl
-unit_skip (suc a) (suc i) (suc j) = unit_skip a i j
 
 pub spot : ℕ → ℕ → (ℕ → ℕ) → ℕ → ℕ
 spot zero j p zero = j

@@ -15,14 +15,14 @@ use Rattle.sg_algebra.proofs.ValueField.{ValueR, zero_mul_value, mul_zero_value}
 use Rattle.sg_algebra.proofs.Polynomial.{coefficient}
 use Rattle.sg_algebra.proofs.Sums.{sum, sum_cong, sum-zero, sum_unit, sum-add, sum-neg, sum-swap, sum-scale}
 use Rattle.sg_algebra.proofs.Rows.{past_row}
-use Rattle.sg_algebra.proofs.Tables.{past_table}
+use Rattle.sg_algebra.proofs.Tables.{past_table, get_below, get_last, push_size}
 use Rattle.sg_algebra.proofs.Linear.{row_times, Span, unit, table, row, Form}
 use Rattle.sg_algebra.proofs.NullSpace.{axis_one, axis_zero, row_times_cong, past_row_dot}
 use Rattle.sg_matrix.specs.Systems.{LeadsAt, IsEchelon, IsSystem, SameSpan}
 use Rattle.sg_matrix.specs.Steps.{IsFree, IsVector, image}
 use Rattle.sg_matrix.proofs.Leads.{leads_unique}
 use Rattle.sg_matrix.proofs.Places.{skip_low, spot, spot_own, spot_skip}
-use Rattle.sg_matrix.proofs.Spans.{against, row_against, against_unit, against_less, null_span, span_zero, span_same, span_times, span_row, row_below, row_last, pushed_size, all_pushed, span_push, span_last}
+use Rattle.sg_matrix.proofs.Spans.{against, row_against, against_unit, against_less, null_span, span_zero, span_same, span_times, span_row, all_pushed, span_push, span_last}
 use Rattle.sg_matrix.proofs.Adding.{leads_pivot, pivot_entry}
 
 order : (p q : ℕ) → (p ≡ q) ⊎ ((p < q) ⊎ (q < p))
@@ -159,7 +159,7 @@ module _ {K : Type 0} {d : ℕ} (v : K → Value d) where
       | inl q ↦ rw (old i (omega arith), old j q) (b.ascending i j g q)
       | inr t ↦ rw (old i (omega arith), t, here) (b.below i (omega arith))
     ];
-    vectors = λ i l. elim (last i l) [ inl q ↦ rw (old i q, row_below v basis c i q) (b.vectors i q) | inr t ↦ rw (row_last v basis c i t, t, here) s ];
+    vectors = λ i l. elim (last i l) [ inl q ↦ rw (old i q, get_below basis c i q) (b.vectors i q) | inr t ↦ rw (get_last basis c i t, t, here) s ];
     spans = λ a. span_times (a m) (table v (basis ++ c ∷ [])) (coefficient (map v c)) (λ i. sum (ValueR d) (λ k. a k *ᵛ image v bs p k i) m) (λ i. sum (ValueR d) (λ k. a k *ᵛ image v bs p k i) (m + 1))
         (span_last v basis c) (span_push v basis c (λ i. sum (ValueR d) (λ k. a k *ᵛ image v bs p k i) m) (b.spans a))
         (λ i. one_more (λ k. a k *ᵛ image v bs p k i) m
@@ -167,7 +167,7 @@ module _ {K : Type 0} {d : ℕ} (v : K → Value d) where
   })
     where
       last : (i : ℕ) → i < length (basis ++ c ∷ []) → (i < length basis) ⊎ (i ≡ length basis)
-      last i l = last_or_below (length basis) i (omega (arith, pushed_size v basis c))
+      last i l = last_or_below (length basis) i (omega (arith, push_size basis c))
 
       old : (i : ℕ) → i < length basis → spot (length basis) m b.own i ≡ b.own i
       old i q = ap (spot (length basis) m b.own) (skip_low (length basis) i q) ∙ spot_skip (length basis) m b.own i

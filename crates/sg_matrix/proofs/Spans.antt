@@ -2,7 +2,7 @@
 --   total c bs k                      the entry at k of the sum of the vectors bs times c 0, c 1, ..; combined_total, span_of, span_total
 --   span_zero, span_same, span_times  what is spanned: 0, equal vectors, a multiple and a sum
 --   span_row, span_rows, span_entry   each row is spanned; what rows span is spanned where they are; at the places of unit vectors the entries are the constants
---   row_below, row_last, all_pushed, span_push, span_last    the rows with one more
+--   all_pushed, span_push, span_last    the rows with one more
 --   against w g f                     g 0 f 0 + .. over w places: row_against, against_less
 --   null_span                         what rows send to 0 their combinations send to 0
 use Rattle.std.proofs.Common.{◌≡◌, ℕ, zero, suc, ◌+◌, ◌<◌, ◌≤◌, refl, sym, ◌∙◌, ap, ap₂, List, [], ◌∷◌, ◌++◌, map, length, get_or, ◌⊎◌, inl, inr, arith}
@@ -12,6 +12,7 @@ use Rattle.sg_algebra.proofs.Value.{Value, zero_value, one_value, ◌+ᵛ◌, �
 use Rattle.sg_algebra.proofs.ValueField.{ValueR, zero_mul_value, mul_zero_value}
 use Rattle.sg_algebra.proofs.Polynomial.{coefficient}
 use Rattle.sg_algebra.proofs.Sums.{sum, sum_cong, sum-add, sum-scale, sum-zero, sum-first, sum_unit}
+use Rattle.sg_algebra.proofs.Tables.{get_below, get_last, push_size}
 use Rattle.sg_algebra.proofs.Linear.{row_times, combined, Span, vector, unit, table, row}
 use Rattle.sg_algebra.proofs.NullSpace.{axis_one, axis_zero, table_at}
 
@@ -150,33 +151,18 @@ module _ {K : Type 0} {d : ℕ} (v : K → Value d) where
           ∙ sym (row_against (map v (get_or xs i [])) f w (omega (arith, length_map v (get_or xs i []), b i l))) ∙ z i l
 
   -- ---- The rows with one more
-  pub row_below : (xs : List (List K)) (c : List K) (i : ℕ) → i < length xs → get_or (xs ++ c ∷ []) i [] ≡ get_or xs i []
-  row_below [] c i h = absurd (omega arith)
-  row_below (x ∷ xs) c zero h = refl
-  row_below (x ∷ xs) c (suc i) h = row_below xs c i (omega arith)
-
-  pub row_last : (xs : List (List K)) (c : List K) (i : ℕ) → i ≡ length xs → get_or (xs ++ c ∷ []) i [] ≡ c
-  row_last [] c zero h = refl
-  row_last [] c (suc i) h = absurd (omega arith)
-  row_last (x ∷ xs) c zero h = absurd (omega arith)
-  row_last (x ∷ xs) c (suc i) h = row_last xs c i (omega arith)
-
-  pub pushed_size : (xs : List (List K)) (c : List K) → length (xs ++ c ∷ []) ≡ length xs + 1
-  pushed_size [] c = refl
-  pushed_size (x ∷ xs) c = omega (arith, pushed_size xs c)
-
   last_or_below : (n i : ℕ) → i < n + 1 → (i < n) ⊎ (i ≡ n)
   last_or_below n i l = grind arith
 
   pub all_pushed : (P : List K → Type 0) (xs : List (List K)) (c : List K) → ((i : ℕ) → i < length xs → P (get_or xs i [])) → P c → (i : ℕ) → i < length (xs ++ c ∷ []) → P (get_or (xs ++ c ∷ []) i [])
-  all_pushed P xs c h p i l = elim (last_or_below (length xs) i (omega (arith, pushed_size xs c))) [
-    | inl q ↦ rw (row_below xs c i q) (h i q)
-    | inr e ↦ rw (row_last xs c i e) p
+  all_pushed P xs c h p i l = elim (last_or_below (length xs) i (omega (arith, push_size xs c))) [
+    | inl q ↦ rw (get_below xs c i q) (h i q)
+    | inr e ↦ rw (get_last xs c i e) p
   ]
 
   pub span_push : (xs : List (List K)) (c : List K) (f : ℕ → Value d) → Span (table v xs) f → Span (table v (xs ++ c ∷ [])) f
   span_push xs c f s = span_rows (xs ++ c ∷ []) xs f
-      (λ i l. span_same (table v (xs ++ c ∷ [])) (row v (xs ++ c ∷ []) i) (row v xs i) (λ k. ap (λ (q : List K). coefficient (map v q) k) (sym (row_below xs c i l))) (span_row (xs ++ c ∷ []) i)) s
+      (λ i l. span_same (table v (xs ++ c ∷ [])) (row v (xs ++ c ∷ []) i) (row v xs i) (λ k. ap (λ (q : List K). coefficient (map v q) k) (sym (get_below xs c i l))) (span_row (xs ++ c ∷ []) i)) s
 
   pub span_last : (xs : List (List K)) (c : List K) → Span (table v (xs ++ c ∷ [])) (coefficient (map v c))
-  span_last xs c = span_same (table v (xs ++ c ∷ [])) (row v (xs ++ c ∷ []) (length xs)) (coefficient (map v c)) (λ k. ap (λ (q : List K). coefficient (map v q) k) (sym (row_last xs c (length xs) refl))) (span_row (xs ++ c ∷ []) (length xs))
+  span_last xs c = span_same (table v (xs ++ c ∷ [])) (row v (xs ++ c ∷ []) (length xs)) (coefficient (map v c)) (λ k. ap (λ (q : List K). coefficient (map v q) k) (sym (get_last xs c (length xs) refl))) (span_row (xs ++ c ∷ []) (length xs))

@@ -1,7 +1,8 @@
 -- Constants as fractions of polynomials.
+--   one_item, one_unit    the polynomial of a row that holds one item; where this is 1
 --   constant_reduced    a constant over 1 is reduced
 --   constant-zero, constant-one, constant-rational    what the constants 0, 1 and a fraction stand for
-use Rattle.std.proofs.Common.{◌≡◌, ℕ, zero, suc, ◌<◌, refl, sym, ◌∙◌, ap, ap₂, List, [], ◌∷◌, ℤ, arith}
+use Rattle.std.proofs.Common.{◌≡◌, ℕ, zero, suc, ◌<◌, refl, sym, ◌∙◌, ap, ap₂, List, [], ◌∷◌, ◌++◌, map, ℤ, arith}
 use Rattle.sg_algebra.proofs.Ring.{nat}
 use Rattle.sg_algebra.proofs.Coprime.{coprime_one}
 use Rattle.sg_algebra.proofs.Value.{Value, over_value, zero_value, one_value, ◌/ᵛ◌}
@@ -9,11 +10,18 @@ use Rattle.sg_algebra.proofs.ValueField.{ValueR, value_quotient, value_product}
 use Rattle.sg_algebra.proofs.OverValue.{over_value-self}
 use Rattle.sg_algebra.proofs.Embedding.{constant_value, constant_valueH, constant_value-nat, constant_value-whole, numeral_ne}
 use Rattle.sg_algebra.proofs.Rational.{whole_value, rational_value}
-use Rattle.sg_algebra.proofs.Polynomial.{PolynomialR, poly, poly_cong, poly_same, coefficient, zero_polynomial, one_polynomial, polynomial_one_ne}
+use Rattle.sg_algebra.proofs.Polynomial.{Polynomial, PolynomialR, poly, poly_cong, poly_same, coefficient, zero_polynomial, one_polynomial, polynomial_one_ne}
 use Rattle.sg_poly.specs.Divisors.{IsMonic}
 use Rattle.sg_ratfun.specs.Reduced.{IsReduced}
 use Rattle.sg_ratfun.proofs.Monics.{monic_cong}
 use Rattle.sg_ratfun.proofs.Quotients.{over_zero, over_equal}
+
+module _ {K : Type 0} {d : ℕ} (v : K → Value d) where
+  pub one_item : {p : Polynomial d} {row start : List K} (x : K) → p ≡ poly (map v row) → row ≡ start ++ x ∷ [] → start ≡ [] → p ≡ poly (v x ∷ [])
+  one_item x e h s = e ∙ ap (λ r. poly (map v r)) (h ∙ ap (λ r. r ++ x ∷ []) s)
+
+  pub one_unit : {p : Polynomial d} {row start : List K} (x : K) → p ≡ poly (map v row) → row ≡ start ++ x ∷ [] → start ≡ [] → v x ≡ one_value → p ≡ one_polynomial
+  one_unit x e h s u = one_item x e h s ∙ ap (λ y. poly (y ∷ [])) u
 
 module _ {d : ℕ} where
   one_monic : IsMonic (one_value {d = d} ∷ [])

@@ -1,7 +1,7 @@
 -- A probe of a list of fractions of polynomials.
 --   pairwise_length, pairwise_push     as many; one pair more
 --   pairwise_map, map_pairwise         pairwise with a list mapped
---   moved_over        an item goes from the front of one list to the end of another
+--   moved_over        an item goes from the front of one list to the end of another; put_behind: items behind a row
 --   Known v args c r  c has the value r at args
 --   room, rest_known  the values of an item's coefficients are there, and then those of the items behind
 --   item_has, item_nonzero    a fraction has the quotient of the values of its parts, which isn't 0 where it is tested
@@ -68,6 +68,9 @@ module _ {A B : Type 0} (f : A → B) where
   moved_over row longer p c x i total h e s l t =
       ap (λ r. map f r ++ map f (drop (i + 1) p)) l ∙ ap (λ r. r ++ map f (drop (i + 1) p)) (map_append row (c ∷ []) ∙ ap (λ y. map f row ++ y ∷ []) s)
       ∙ append_assoc (map f row) (f x ∷ []) (map f (drop (i + 1) p)) ∙ ap (◌++◌ (map f row)) (sym (last_item p i x h e)) ∙ t
+
+  pub put_behind : {w : List B} (row : List B) {p q r : List A} → w ≡ row ++ map f p → p ≡ q → q ≡ r → w ≡ row ++ map f r
+  put_behind row e h k = e ∙ ap (λ (s : List A). row ++ map f s) (h ∙ k)
 
   pub all_moved : (row p : List A) (i : ℕ) (total : List B) → length p ≤ i → map f row ++ map f (drop i p) ≡ total → map f row ≡ total
   all_moved row p i total h t = sym (append-nil (map f row)) ∙ ap (λ (r : List A). map f row ++ map f r) (sym (nothing p i h)) ∙ t

@@ -49,16 +49,14 @@ module _ {d : ℕ} where
   over_least : (a c b e g n n' g' h : Polynomial d) → n ≡ a *ᵖ e +ᵖ c *ᵖ b → n ≡ n' *ᵖ h → g ≡ g' *ᵖ h
       → n' *ᵖ ((b *ᵖ g) *ᵖ (e *ᵖ g)) ≡ (a *ᵖ (e *ᵖ g) +ᵖ c *ᵖ (b *ᵖ g)) *ᵖ ((b *ᵖ e) *ᵖ g')
   over_least a c b e g n n' g' h k l m =
-      let R = PolynomialR d in
-      by R (a ∷ c ∷ b ∷ e ∷ g ∷ n ∷ n' ∷ g' ∷ h ∷ [])
-      (R.add_cong (scale R (((b *ᵖ e) *ᵖ g) *ᵖ n') m) (R.add_cong (scale R (((b *ᵖ e) *ᵖ g) *ᵖ g') k) (R.neg_cong (scale R (((b *ᵖ e) *ᵖ g) *ᵖ g') l)))) (search reads depth 24 fits 9000) refl
+      by (PolynomialR d) (a ∷ c ∷ b ∷ e ∷ g ∷ n ∷ n' ∷ g' ∷ h ∷ [])
+      ((PolynomialR d).add_cong (scale (PolynomialR d) (((b *ᵖ e) *ᵖ g) *ᵖ n') m) ((PolynomialR d).add_cong (scale (PolynomialR d) (((b *ᵖ e) *ᵖ g) *ᵖ g') k) ((PolynomialR d).neg_cong (scale (PolynomialR d) (((b *ᵖ e) *ᵖ g) *ᵖ g') l)))) (search reads depth 24 fits 9000) refl
 
   minus_least : (a c b e g n n' g' h : Polynomial d) → n ≡ a *ᵖ e -ᵖ c *ᵖ b → n ≡ n' *ᵖ h → g ≡ g' *ᵖ h
       → n' *ᵖ ((b *ᵖ g) *ᵖ (e *ᵖ g)) ≡ (a *ᵖ (e *ᵖ g) -ᵖ c *ᵖ (b *ᵖ g)) *ᵖ ((b *ᵖ e) *ᵖ g')
   minus_least a c b e g n n' g' h k l m =
-      let R = PolynomialR d in
-      by R (a ∷ c ∷ b ∷ e ∷ g ∷ n ∷ n' ∷ g' ∷ h ∷ [])
-      (R.add_cong (scale R (((b *ᵖ e) *ᵖ g) *ᵖ n') m) (R.add_cong (scale R (((b *ᵖ e) *ᵖ g) *ᵖ g') k) (R.neg_cong (scale R (((b *ᵖ e) *ᵖ g) *ᵖ g') l)))) (search reads depth 24 fits 9000) refl
+      by (PolynomialR d) (a ∷ c ∷ b ∷ e ∷ g ∷ n ∷ n' ∷ g' ∷ h ∷ [])
+      ((PolynomialR d).add_cong (scale (PolynomialR d) (((b *ᵖ e) *ᵖ g) *ᵖ n') m) ((PolynomialR d).add_cong (scale (PolynomialR d) (((b *ᵖ e) *ᵖ g) *ᵖ g') k) ((PolynomialR d).neg_cong (scale (PolynomialR d) (((b *ᵖ e) *ᵖ g) *ᵖ g') l)))) (search reads depth 24 fits 9000) refl
 
   three_monic : (a b c m : List (Value d)) → poly m ≡ (poly a *ᵖ poly b) *ᵖ poly c → IsMonic a → IsMonic b → IsMonic c → IsMonic m
   three_monic a b c m e x y z = monic_product (poly_mul (ValueR d) a b) c m (e ∙ ap (λ p. p *ᵖ poly c) (sym (poly-mul a b))) (monic_product a b (poly_mul (ValueR d) a b) (poly-mul a b) x y) z

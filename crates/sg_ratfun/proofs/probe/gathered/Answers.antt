@@ -1,13 +1,12 @@
-use Rattle.std.proofs.Common.{◌∙◌, ◌++◌, ap, map, arith}
-use Rattle.sg_ratfun.proofs.Probing.{gathered_step, all_gathered}
+use Rattle.std.proofs.Common.{map, arith}
+use Rattle.sg_ratfun.proofs.Probing.{put_behind, gathered_step, all_gathered}
 use Rattle.sg_ratfun.proofs.probe.gathered.Goals as goal
 
 pub loop-i-preserved : goal.loop-i-preserved
 loop-i-preserved g c =
-    let v = g.F.Field.val in
-    gathered_step v (map v c.loop-i.row) (map v c.in_ok-row.row) (map v c.in_ok-row-2.row) c.args.list.now c.loop-i.i c.get-item.result.now _ (omega arith) c.get-item.ensures
-    (c.in_ok-row.ensures.value ∙ ap (λ p. map v c.loop-i.row ++ map v p) (c.coeffs.ensures.value ∙ c.upper.ensures.value))
-    (c.in_ok-row-2.ensures.value ∙ ap (λ p. map v c.in_ok-row.row ++ map v p) (c.coeffs-in-loop-i.ensures.value ∙ c.lower.ensures.value)) c.loop-i.invariant
+    gathered_step g.F.Field.val (map g.F.Field.val c.loop-i.row) (map g.F.Field.val c.in_ok-row.row) (map g.F.Field.val c.in_ok-row-2.row) c.args.list.now c.loop-i.i c.get-item.result.now _ (omega arith) c.get-item.ensures
+    (put_behind g.F.Field.val (map g.F.Field.val c.loop-i.row) c.in_ok-row.ensures.value c.coeffs.ensures.value c.upper.ensures.value)
+    (put_behind g.F.Field.val (map g.F.Field.val c.in_ok-row.row) c.in_ok-row-2.ensures.value c.coeffs-in-loop-i.ensures.value c.lower.ensures.value) c.loop-i.invariant
 
 pub returns-clause-value : goal.returns-clause-value
 returns-clause-value g c = all_gathered g.F.Field.val (map g.F.Field.val c.loop-i.row) c.args.list.now c.loop-i.i _ (omega arith) c.loop-i.invariant

@@ -14,9 +14,8 @@ use Rattle.sg_poly.proofs.Joined.{variable, poly-cons, less, poly-less, less-at}
 
 step : {d : ℕ} (pa p c x q w r tq t n ra : Polynomial d) → pa ≡ c +ᵖ x *ᵖ p → p ≡ q *ᵖ w +ᵖ r → tq ≡ t +ᵖ x *ᵖ q → ra ≡ c +ᵖ x *ᵖ r → n ≡ ra -ᵖ t *ᵖ w → pa ≡ tq *ᵖ w +ᵖ n
 step {d} pa p c x q w r tq t n ra e f g h k =
-    let R = PolynomialR d in
-    by R (pa ∷ p ∷ c ∷ x ∷ q ∷ w ∷ r ∷ tq ∷ t ∷ n ∷ ra ∷ [])
-    (R.add_cong e (R.add_cong (scale R x f) (R.neg_cong (R.add_cong (scale R w g) (R.add_cong h k))))) (search reads depth 24 fits 8000) refl
+    by (PolynomialR d) (pa ∷ p ∷ c ∷ x ∷ q ∷ w ∷ r ∷ tq ∷ t ∷ n ∷ ra ∷ [])
+    ((PolynomialR d).add_cong e ((PolynomialR d).add_cong (scale (PolynomialR d) x f) ((PolynomialR d).neg_cong ((PolynomialR d).add_cong (scale (PolynomialR d) w g) ((PolynomialR d).add_cong h k))))) (search reads depth 24 fits 8000) refl
 
 vanishes : {d : ℕ} (a b t : Value d) → ¬ (b ≡ zero_value) → t ≡ a /ᵛ b → a -ᵛ t *ᵛ b ≡ zero_value
 vanishes {d} a b t n e = by (ValueR d) (a ∷ b ∷ t ∷ inv_value b ∷ []) ((ValueR d).neg_cong ((ValueR d).add_cong (scale (ValueR d) b e) (value_product a b n))) (search reads depth 20 fits 4000) refl

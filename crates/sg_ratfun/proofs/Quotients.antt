@@ -14,9 +14,6 @@ module _ {d : ℕ} where
   apart : (q : List (Value d)) → ¬ (poly q ≡ zero_polynomial) → ¬ ((ListR d).◌≈◌ q [])
   apart q n z = n (poly_cong z)
 
-  products : (p q : List (Value d)) → List (Value d)
-  products p q = poly_mul (ValueR d) p q
-
   product_ne : (q s : List (Value d)) → ¬ (poly q ≡ zero_polynomial) → ¬ (poly s ≡ zero_polynomial) → ¬ (poly (poly_mul (ValueR d) q s) ≡ zero_polynomial)
   product_ne q s h k e = k (polynomial_factor (poly q) (poly s) h (sym (poly-mul q s) ∙ e))
 

@@ -10,7 +10,7 @@ use Rattle.sg_algebra.proofs.Value.{Value, ◌+ᵛ◌, ◌*ᵛ◌, ◌/ᵛ◌, n
 use Rattle.sg_algebra.proofs.ValueField.{ValueR, value_quotient}
 use Rattle.sg_spec.specs.Fraction.{Fraction, whole}
 use Rattle.sg_spec.specs.Plain.{raised, monomial, joined, with_terms, numerator, leads_below_zero, canonical}
-use Rattle.sg_spec.specs.Tree.{Tree, numeral, here, neg, mul, div, power}
+use Rattle.sg_spec.specs.Tree.{Tree, numeral, neg, mul, div}
 use Rattle.sg_spec.specs.Value.{val, both, quotient_of}
 use Rattle.sg_values.proofs.Values.{val-proper, IsProper}
 use Rattle.sg_values.proofs.Worth.{Worth, worth_cong, worth-sum, worth-product, worth-opposite, worth-power, worth-whole}
@@ -18,23 +18,6 @@ use Rattle.sg_plain.proofs.Wholes.{whole_value-neg}
 use Rattle.sg_plain.specs.Terms.{term, falling_value}
 
 -- ---- The trees, by cases
-
-pub raised-high : (e : ℕ) → ¬ (e ≡ 0) → ¬ (e ≡ 1) → raised e ≡ power here e
-raised-high zero h k = absurd (h refl)
-raised-high (suc zero) h k = absurd (k refl)
-raised-high (suc (suc e)) h k = refl
-
-pub monomial-plain : (e : ℕ) → ¬ (e ≡ 0) → monomial 1 e ≡ raised e
-monomial-plain zero h = absurd (h refl)
-monomial-plain (suc e) h = refl
-
-pub monomial-times : (c e : ℕ) → ¬ (e ≡ 0) → ¬ (c ≡ 1) → monomial c e ≡ mul (numeral (pos c)) (raised e)
-monomial-times c zero h k = absurd (h refl)
-monomial-times c (suc e) h k = cases (c == 1) refl
-  where
-    cases : (b : Bool) → (c == 1) ≡ b → cond b (raised (suc e)) (mul (numeral (pos c)) (raised (suc e))) ≡ mul (numeral (pos c)) (raised (suc e))
-    cases true q = absurd (k (eqb-true c 1 q))
-    cases false q = refl
 
 -- ---- Values
 

@@ -10,7 +10,7 @@ use Rattle.sg_algebra.proofs.ValueField.{value_quotient, value_mul_comm}
 use Rattle.sg_num.specs.declared.rat.Rat.{Rat}
 use Rattle.sg_spec.specs.Closed.{Closed, IsOverOwn}
 use Rattle.sg_spec.specs.Generators.{Over, all_sums, all_prods, sums, prods, distinct, start_of}
-use Rattle.sg_spec.specs.Plain.{IsPlain, IsCanonical, raised, monomial, joined, with_terms, numerator, leads_below_zero, canonical}
+use Rattle.sg_spec.specs.Plain.{IsPlain, raised, monomial, joined, with_terms, numerator, leads_below_zero, canonical}
 use Rattle.sg_spec.specs.Printing.{InForm}
 use Rattle.sg_spec.specs.Tree.{Tree, numeral, here, param, add, neg, mul, div, power, sum_from, prod_from}
 use Rattle.sg_spec.specs.Value.{val}
@@ -168,15 +168,6 @@ closed-canonical f h p q lent-p lent-q cs lent-cs d a plain worth lp step first 
           (λ x. step (whole_value 0 x)
           ∙ ap₂ (λ v l. value_at q v +ᵛ value_at l (whole_value 0 x)) (sym (whole_value-before x)) lp);
     })
-
-pub canonical-is : (h : Tree) (q : List Rat) (cs lent-cs : List ℤ) (d : ℤ) → IsCommon q cs d → lent-cs ≡ cs → h ≡ canonical lent-cs (unsigned_abs d) → IsCanonical h
-canonical-is h q cs lent-cs d common lcs is = record {
-  coefficients = cs;
-  denominator = unsigned_abs d;
-  positive = positive-size d common.positive;
-  lowest = common.lowest;
-  form = is ∙ ap (λ (l : List ℤ). canonical l (unsigned_abs d)) lcs;
-}
 
 pub form-is : (h : Tree) (cs : List ℤ) (d : ℕ) → h ≡ canonical cs d → InForm false false h
 form-is h cs d is = subst (InForm false false) (sym is) (form-canonical cs d)

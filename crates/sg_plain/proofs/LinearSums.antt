@@ -16,7 +16,7 @@ use Rattle.sg_algebra.proofs.Value.{Value, ◌+ᵛ◌, ◌-ᵛ◌, ◌*ᵛ◌, �
 use Rattle.sg_algebra.proofs.ValueField.{ValueR, value_quotient, value_product}
 use Rattle.sg_spec.specs.Closed.{Closed, IsOverOwn}
 use Rattle.sg_spec.specs.Generators.{prods}
-use Rattle.sg_spec.specs.Plain.{IsPlain, IsCanonical, canonical, common_divisor}
+use Rattle.sg_spec.specs.Plain.{IsPlain, canonical, common_divisor}
 use Rattle.sg_spec.specs.Printing.{InForm}
 use Rattle.sg_spec.specs.Tree.{Tree}
 use Rattle.sg_values.proofs.Worth.{total_worth, whole_value-before}
@@ -134,9 +134,6 @@ closed-linear f t c s a plain lin sum =
           (λ x. over-step (falling_value sum.coefficients (whole_value 0 x)) (falling_value sum.coefficients (whole_value 0 (x -ℤ pos 1))) (linear_value c s (whole_value 0 x)) (whole_value 0 (pos sum.denominator))
           (nat_ne sum.denominator sum.positive) (sum.step (whole_value 0 x) ∙ ap (λ v. falling_value sum.coefficients v +ᵛ whole_value 0 (pos sum.denominator) *ᵛ linear_value c s (whole_value 0 x)) (sym (whole_value-before x))));
     })
-
-pub canonical-linear : (t : Tree) (c s a : ℤ) → IsSummed c s a t → IsCanonical t
-canonical-linear t c s a sum = record { coefficients = sum.coefficients; denominator = sum.denominator; positive = sum.positive; lowest = sum.lowest; form = sum.form }
 
 pub form-linear : (t : Tree) (c s a : ℤ) → IsSummed c s a t → InForm false false t
 form-linear t c s a sum = form-is t sum.coefficients sum.denominator sum.form

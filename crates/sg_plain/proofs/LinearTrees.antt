@@ -163,16 +163,6 @@ mul-left x y h = factor-bound (weight x) (weight y) 65536 (weight_positive y) h
 pub mul-right : (x y : Tree) → weight x * weight y ≤ 65536 → weight y ≤ 65536
 mul-right x y h = factor-bound (weight y) (weight x) 65536 (weight_positive x) (omega arith)
 
-one-flat : (d e : ℕ) (s t : ℤ) → d + e ≤ 1 → (d ≡ 0 → s ≡ pos 0) → (e ≡ 0 → t ≡ pos 0) → (s ≡ pos 0) ⊎ (t ≡ pos 0)
-one-flat zero e s t h p q = inl (p refl)
-one-flat (suc d) e s t h p q = inr (q (omega arith))
-
-pub mul-flat : (x y : Tree) (c s b t : ℤ) → (degrees x).variable + (degrees y).variable ≤ 1 → IsLinear x c s → IsLinear y b t → (s ≡ pos 0) ⊎ (t ≡ pos 0)
-mul-flat x y c s b t h p q = one-flat (degrees x).variable (degrees y).variable s t h p.flat q.flat
-
-pub mul-light : (x y : Tree) (c s b t : ℤ) → weight x * weight y ≤ 65536 → IsLinear x c s → IsLinear y b t → linear_size c s * linear_size b t ≤ 65536
-mul-light x y c s b t h p q = let m : linear_size c s * linear_size b t ≤ weight x * weight y = mul-le-mul p.light q.light in omega arith
-
 pub pow-degree : (d e : ℕ) → ¬ (e ≡ 0) → d * e ≤ 1 → d ≤ 1
 pow-degree d zero h k = absurd (h refl)
 pow-degree d (suc e) h k = factor-bound d (suc e) 1 (omega arith) k

@@ -2,7 +2,7 @@
 --   value_at-past      past the end of a list there is the zero polynomial
 --   value_at-drop      one coefficient, and x times the rest
 --   value_at-push      one more coefficient at the end
-use Rattle.std.proofs.Common.{◌≡◌, ℕ, ◌+◌, ◌≤◌, List, [], ◌∷◌, ◌++◌, length, drop, ℤ, pos, negsuc, refl, sym, ap, ap₂, ◌∙◌, arith, add-one}
+use Rattle.std.proofs.Common.{◌≡◌, ℕ, ◌+◌, ◌≤◌, List, [], ◌∷◌, ◌++◌, length, drop, slice_index_or, slice_set, zero, suc, ◌<◌, Result, Ok, Err, OnOk, ℤ, pos, negsuc, refl, sym, ap, ap₂, ◌∙◌, arith, add-one}
 use Rattle.sg_algebra.proofs.Ring.{pow}
 use Rattle.sg_algebra.proofs.Solver.{ring, by, scale, reads}
 use Rattle.sg_algebra.proofs.Value.{Value, ◌+ᵛ◌, ◌*ᵛ◌, neg_value, zero_value, one_value}
@@ -81,6 +81,42 @@ monomial-value p r z e x h n is f =
     ap (λ l. value_at l x) is ∙ value_at-push p z x ∙ ap₂ (λ u v. u +ᵛ pow (ValueR 0) x (length p) *ᵛ v) h (number-whole z (pos 1) f)
     ∙ ring (ValueR 0) (pow (ValueR 0) x (length p) ∷ []) (search reads depth 16) refl ∙ ap (λ (n : ℕ). pow (ValueR 0) x n) n
 
+-- ---- c more at one degree
+
+pub padded-value : (p r : List Rat) (z : Rat) (x T : Value 0) → r ≡ p ++ (z ∷ []) → fraction z ≡ whole (pos 0) → value_at p x ≡ T → value_at r x ≡ T
+padded-value p r z x T is e h =
+    ap (λ l. value_at l x) is ∙ value_at-push p z x ∙ ap (λ v. value_at p x +ᵛ pow (ValueR 0) x (length p) *ᵛ v) (number-whole z (pos 0) e)
+    ∙ ring (ValueR 0) (value_at p x ∷ pow (ValueR 0) x (length p) ∷ []) (search reads depth 16) refl ∙ h
+
+set-step : (x a c P S X : Value 0) → S ≡ P +ᵛ c *ᵛ X → a +ᵛ x *ᵛ S ≡ (a +ᵛ x *ᵛ P) +ᵛ c *ᵛ (X *ᵛ x)
+set-step x a c P S X h = by (ValueR 0) (x ∷ a ∷ c ∷ P ∷ S ∷ X ∷ []) (scale (ValueR 0) x h) (search reads depth 20) refl
+
+pub set-value : (p : List Rat) (i : ℕ) (r c d : Rat) (x : Value 0) → i < length p → number r ≡ number (slice_index_or p i d) +ᵛ number c
+    → value_at (slice_set p i r) x ≡ value_at p x +ᵛ number c *ᵛ pow (ValueR 0) x i
+set-value [] i r c d x h e = absurd (omega arith)
+set-value (a ∷ p) zero r c d x h e =
+    ap (λ v. v +ᵛ x *ᵛ value_at p x) e ∙ ring (ValueR 0) (x ∷ number a ∷ number c ∷ value_at p x ∷ []) (search reads depth 16) refl
+set-value (a ∷ p) (suc i) r c d x h e = set-step x (number a) (number c) (value_at p x) (value_at (slice_set p i r) x) (pow (ValueR 0) x i) (set-value p i r c d x (omega arith) e)
+
+all-step : (x S S' c X D D' a m T : Value 0) → S +ᵛ c *ᵛ (X *ᵛ D) ≡ T → D ≡ a +ᵛ x *ᵛ D' → m ≡ c *ᵛ a → S' ≡ S +ᵛ m *ᵛ X → S' +ᵛ c *ᵛ ((X *ᵛ x) *ᵛ D') ≡ T
+all-step x S S' c X D D' a m T h hd hm hs =
+    by (ValueR 0) (x ∷ S ∷ S' ∷ c ∷ X ∷ D ∷ D' ∷ a ∷ m ∷ T ∷ []) (ap₂ ◌+ᵛ◌ (ap₂ ◌+ᵛ◌ (ap₂ ◌+ᵛ◌ hs (scale (ValueR 0) X hm)) h) (scale (ValueR 0) (neg_value (c *ᵛ X)) hd)) (search reads depth 24 fits 6000) refl
+
+pub all-next : (p sum next : List Rat) (i : ℕ) (c a more : Rat) (x T : Value 0) → value_at sum x +ᵛ number c *ᵛ (pow (ValueR 0) x i *ᵛ value_at (drop i p) x) ≡ T
+    → value_at (drop i p) x ≡ number a +ᵛ x *ᵛ value_at (drop (i + 1) p) x → number more ≡ number c *ᵛ number a → value_at next x ≡ value_at sum x +ᵛ number more *ᵛ pow (ValueR 0) x i
+    → value_at next x +ᵛ number c *ᵛ (pow (ValueR 0) x (i + 1) *ᵛ value_at (drop (i + 1) p) x) ≡ T
+all-next p sum next i c a more x T h hd hm hs =
+    rw (pow-next x i)
+    (all-step x (value_at sum x) (value_at next x) (number c) (pow (ValueR 0) x i) (value_at (drop i p) x) (value_at (drop (i + 1) p) x) (number a) (number more) T h hd hm hs)
+
+pub all-start : (p sum : List Rat) (c : Rat) (x : Value 0) → value_at sum x +ᵛ number c *ᵛ (one_value *ᵛ value_at p x) ≡ value_at sum x +ᵛ number c *ᵛ value_at p x
+all-start p sum c x = ring (ValueR 0) (value_at sum x ∷ number c ∷ value_at p x ∷ []) (search reads depth 16) refl
+
+pub all-end : (p sum : List Rat) (i : ℕ) (c : Rat) (x T : Value 0) → length p ≤ i → value_at sum x +ᵛ number c *ᵛ (pow (ValueR 0) x i *ᵛ value_at (drop i p) x) ≡ T → value_at sum x ≡ T
+all-end p sum i c x T h e =
+    ring (ValueR 0) (value_at sum x ∷ pow (ValueR 0) x i ∷ number c ∷ []) (search reads depth 16) refl
+    ∙ ap (λ v. value_at sum x +ᵛ number c *ᵛ (pow (ValueR 0) x i *ᵛ v)) (sym (value_at-past p i x h)) ∙ e
+
 -- ---- p q and powers
 
 pub multiple-value : (q r : List Rat) (c : Rat) (x : Value 0) → value_at r x ≡ zero_value +ᵛ number c *ᵛ value_at q x → value_at r x ≡ number c *ᵛ value_at q x
@@ -138,3 +174,34 @@ power-next p result lent next x i h l k =
 pub variable-value : (p lent r : List Rat) (x : Value 0) → value_at p x ≡ one_value → lent ≡ p → value_at r x ≡ x *ᵛ value_at lent x → value_at r x ≡ x
 variable-value p lent r x h l k =
     k ∙ ap (λ t. x *ᵛ value_at t x) l ∙ ap (λ v. x *ᵛ v) h ∙ ring (ValueR 0) (x ∷ []) (search reads depth 16) refl
+
+-- ---- c times a part more
+
+pub on_ok : {A E : Type 0} (r : Result A E) (P Q : Type 0) → (P → Q) → OnOk r P → OnOk r Q
+on_ok (Ok a) P Q h p = h p
+on_ok (Err e) P Q h p = tt
+
+pub number-more : (T c d w v x : Value 0) → d ≡ c *ᵛ w → w ≡ v → T +ᵛ d *ᵛ one_value ≡ T +ᵛ c *ᵛ v
+number-more T c d w v x h e =
+    by (ValueR 0) (T ∷ c ∷ d ∷ w ∷ v ∷ []) (ap₂ ◌+ᵛ◌ h (scale (ValueR 0) c e)) (search reads depth 20) refl
+
+pub variable-more : (T c x : Value 0) → T +ᵛ c *ᵛ (one_value *ᵛ x) ≡ T +ᵛ c *ᵛ x
+variable-more T c x = ring (ValueR 0) (T ∷ c ∷ x ∷ []) (search reads depth 16) refl
+
+pub sum-more : (S S' T c a b : Value 0) → S ≡ T +ᵛ c *ᵛ a → S' ≡ S +ᵛ c *ᵛ b → S' ≡ T +ᵛ c *ᵛ (a +ᵛ b)
+sum-more S S' T c a b h k = by (ValueR 0) (S ∷ S' ∷ T ∷ c ∷ a ∷ b ∷ []) (ap₂ ◌+ᵛ◌ h k) (search reads depth 20) refl
+
+pub left-more : (S' S c a b T : Value 0) → S' ≡ S +ᵛ c *ᵛ b → S +ᵛ c *ᵛ (a +ᵛ b) ≡ T → S' +ᵛ c *ᵛ a ≡ T
+left-more S' S c a b T h k = by (ValueR 0) (S' ∷ S ∷ c ∷ a ∷ b ∷ T ∷ []) (ap₂ ◌+ᵛ◌ h k) (search reads depth 20) refl
+
+pub opposite-more : (S T c z m a : Value 0) → m ≡ z +ᵛ neg_value c → z ≡ zero_value → S ≡ T +ᵛ m *ᵛ a → S ≡ T +ᵛ c *ᵛ neg_value a
+opposite-more S T c z m a h e k =
+    by (ValueR 0) (S ∷ T ∷ c ∷ z ∷ m ∷ a ∷ []) (ap₂ ◌+ᵛ◌ k (ap₂ ◌+ᵛ◌ (scale (ValueR 0) a h) (scale (ValueR 0) a e))) (search reads depth 20) refl
+
+pub product-more : (S T c d w v b : Value 0) → d ≡ c *ᵛ w → w ≡ v → S ≡ T +ᵛ d *ᵛ b → S ≡ T +ᵛ c *ᵛ (v *ᵛ b)
+product-more S T c d w v b h e k =
+    by (ValueR 0) (S ∷ T ∷ c ∷ d ∷ w ∷ v ∷ b ∷ []) (ap₂ ◌+ᵛ◌ k (ap₂ ◌+ᵛ◌ (scale (ValueR 0) b h) (scale (ValueR 0) (c *ᵛ b) e))) (search reads depth 24) refl
+
+pub collected-value : (old new : List Rat) (z : Rat) (x v : Value 0) → old ≡ [] → fraction z ≡ whole (pos 1) → value_at new x ≡ value_at old x +ᵛ number z *ᵛ v → v ≡ value_at new x
+collected-value old new z x v is e h =
+    sym (h ∙ ap (λ l. value_at l x +ᵛ number z *ᵛ v) is ∙ ap (λ u. zero_value +ᵛ u *ᵛ v) (number-whole z (pos 1) e) ∙ ring (ValueR 0) (v ∷ []) (search reads depth 16) refl)

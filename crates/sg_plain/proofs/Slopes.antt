@@ -46,12 +46,6 @@ size-left c s b t l r hl hr =
     flipped n u v h = omega arith
 
 -- the bound of a product with a constant factor, from that of the sizes
-pub bound-right : (c s b t : ℤ) (n : ℕ) → linear_size c s * linear_size b t ≤ n → linear_size c s * unsigned_abs b ≤ n
-bound-right c s b t n h = below (linear_size c s) (unsigned_abs b) (unsigned_abs t) h
-  where
-    below : (u b t : ℕ) → u * (b + t) ≤ n → u * b ≤ n
-    below u b t h = omega arith
-
 pub bound-left : (c s b t : ℤ) (n : ℕ) → linear_size c s * linear_size b t ≤ n → linear_size b t * unsigned_abs c ≤ n
 bound-left c s b t n h = below (unsigned_abs c) (unsigned_abs s) (linear_size b t) h
   where

@@ -7,7 +7,7 @@ ghost use Rattle.sg_spec.specs.Limits.{degrees};
 ghost use Rattle.sg_spec.specs.Plain.{IsPlain, IsCanonical, weight};
 ghost use Rattle.sg_spec.specs.Printing.{InForm};
 
-use crate::coefficients::coefficients;
+use crate::coefficients::collected;
 use crate::common::over_common;
 use crate::linear::Linear;
 use crate::reading::linear;
@@ -25,7 +25,7 @@ fn telescoped(alloc: Global, f: &Expr, a: i64) -> Result<Expr, Stop>
     ensures form { IfOk result (λ h. InForm false false (tree_of h)) }
     ensures wide { IfErr result KeepsWideStep }
 {
-    let p = coefficients(alloc, f)?;
+    let p = collected(alloc, f)?;
     let q = summed(alloc, p.as_slice(), a)?;
     let all = over_common(alloc, q.as_slice())?;
     let h = canonical_tree(alloc, all.coefficients.as_slice(), all.denominator)?;

@@ -1,17 +1,24 @@
-ghost use Rattle.std.specs.Prelude.{◌≡◌, pos, IfOk, IfErr, IsTrue, ℤ};
+ghost use Rattle.std.specs.Prelude.{◌≡◌, ◌<◌, ◌^◌, pos, length, IfOk, IfErr, IfSome, OnOk, IsTrue, ℤ};
 ghost use Rattle.sg_algebra.proofs.Rational.{whole_value};
-ghost use Rattle.sg_spec.specs.Tree.{here};
+ghost use Rattle.sg_algebra.proofs.Ring.{pow};
+ghost use Rattle.sg_algebra.proofs.Value.{Value, ◌+ᵛ◌, ◌*ᵛ◌};
+ghost use Rattle.sg_algebra.proofs.ValueField.{ValueR};
+ghost use Rattle.sg_num.specs.Value.{number};
+ghost use Rattle.sg_spec.specs.Tree.{here, numeral};
 ghost use Rattle.sg_spec.specs.Value.{val};
 ghost use Rattle.sg_spec.specs.Plain.{IsPlain};
 ghost use Rattle.sg_values.proofs.Worth.{Worth};
 ghost use Rattle.sg_expr.specs.Tree.{tree_of};
 ghost use Rattle.sg_num.specs.Stopped.{KeepsWideStep};
-ghost use Rattle.sg_plain.specs.Evaluation.{value_at};
+ghost use Rattle.sg_plain.specs.Evaluation.{value_at, plain_value};
 
-use crate::polynomial::{added, monomial, one, opposite, power, times, variable, whole};
+use crate::polynomial::{
+    added, coefficient, monomial, one, opposite, power, times, variable, whole,
+};
+use crate::step::{difference, product, sum as total};
 use sg_expr::Expr;
 use sg_num::{Rat, Row, Stop};
-use std::alloc::Global;
+use std::alloc::{AllocError, Global};
 
 // Whether it is the variable.
 fn is_variable(e: &Expr) -> bool
@@ -23,10 +30,131 @@ fn is_variable(e: &Expr) -> bool
     }
 }
 
-/// The coefficients of a plain polynomial, the lowest first. Zeros may stand at the end.
-pub fn coefficients(alloc: Global, e: &Expr) -> Result<Row<Rat>, Stop>
+// Makes room for a coefficient of this degree.
+fn pad(sum: &mut Vec<Rat>, degree: usize) -> Result<(), AllocError>
+    requires { degree < 2 ^ 62 }
+    ensures value { OnOk result ((x : Value 0) → value_at sum.new.items x ≡ value_at sum.old.items x) }
+    ensures room { OnOk result (degree < length sum.new.items) }
+{
+    for place in sum.len()..degree + 1 {
+        let _ = place;
+        sum.push(Rat::whole(0))?;
+    }
+    Ok(())
+}
+
+// Adds c x^degree.
+fn add_term(sum: &mut Vec<Rat>, c: Rat, degree: usize) -> Result<(), Stop>
+    requires { degree < 2 ^ 62 }
+    ensures value { OnOk result ((x : Value 0) → value_at sum.new.items x ≡ value_at sum.old.items x +ᵛ number c *ᵛ pow (ValueR 0) x degree) }
+    ensures wide { IfErr result KeepsWideStep }
+{
+    pad(sum, degree)?;
+    let next = total(sum[degree], c)?;
+    sum[degree] = next;
+    Ok(())
+}
+
+// Adds c p.
+fn add_all(sum: &mut Vec<Rat>, c: Rat, p: &[Rat]) -> Result<(), Stop>
+    ensures value { OnOk result ((x : Value 0) → value_at sum.new.items x ≡ value_at sum.old.items x +ᵛ number c *ᵛ value_at p.now x) }
+    ensures wide { IfErr result KeepsWideStep }
+{
+    for i in 0..p.len() {
+        let more = product(c, coefficient(p, i))?;
+        add_term(sum, more, i)?;
+    }
+    Ok(())
+}
+
+// Adds c times a plain polynomial that is none of the simple parts.
+#[inline(never)]
+fn add_other(alloc: Global, sum: &mut Vec<Rat>, c: Rat, e: &Expr) -> Result<(), Stop>
     requires { IsPlain (tree_of e.now) }
-    ensures value { IfOk result (λ p. (k : ℤ) → Worth (val (tree_of e.now) (pos 0) k) (value_at p (whole_value 0 k))) }
+    ensures value { OnOk result ((x : Value 0) → value_at sum.new.items x ≡ value_at sum.old.items x +ᵛ number c *ᵛ plain_value (tree_of e.now) x) }
+    ensures wide { IfErr result KeepsWideStep }
+{
+    let p = coefficients(alloc, e)?;
+    add_all(sum, c, p.as_slice())
+}
+
+// Adds c times a plain polynomial. One of many terms goes far down on the left alone: so left operands are taken in a loop.
+#[cycle(multiples)]
+fn add_multiple(alloc: Global, sum: &mut Vec<Rat>, c: Rat, e: &Expr) -> Result<(), Stop>
+    requires { IsPlain (tree_of e.now) }
+    ensures value { OnOk result ((x : Value 0) → value_at sum.new.items x ≡ value_at sum.old.items x +ᵛ number c *ᵛ plain_value (tree_of e.now) x) }
+    ensures wide { IfErr result KeepsWideStep }
+{
+    let mut left = e;
+    while let Expr::Add(a, b) = left {
+        add_multiple(alloc, sum, c, b)?;
+        left = a;
+    }
+    add_part(alloc, sum, c, left)
+}
+
+// Adds c times a plain polynomial, by its parts.
+#[cycle(multiples)]
+fn add_part(alloc: Global, sum: &mut Vec<Rat>, c: Rat, e: &Expr) -> Result<(), Stop>
+    requires { IsPlain (tree_of e.now) }
+    ensures value { OnOk result ((x : Value 0) → value_at sum.new.items x ≡ value_at sum.old.items x +ᵛ number c *ᵛ plain_value (tree_of e.now) x) }
+    ensures wide { IfErr result KeepsWideStep }
+{
+    match e {
+        Expr::Num(n) => {
+            let d = product(c, Rat::whole(*n))?;
+            add_term(sum, d, 0)
+        }
+        Expr::Here => add_term(sum, c, 1),
+        Expr::Add(a, b) => {
+            add_multiple(alloc, sum, c, a)?;
+            add_multiple(alloc, sum, c, b)
+        }
+        Expr::Neg(a) => {
+            let minus = difference(Rat::whole(0), c)?;
+            add_multiple(alloc, sum, minus, a)
+        }
+        Expr::Mul(a, b) => match number_of(a) {
+            Some(n) => {
+                let d = product(c, Rat::whole(n))?;
+                add_multiple(alloc, sum, d, b)
+            }
+            None => add_other(alloc, sum, c, e),
+        },
+        Expr::Pow(a, n) => if *n <= 64 && is_variable(a) {
+            add_term(sum, c, *n as usize)
+        } else {
+            add_other(alloc, sum, c, e)
+        },
+        Expr::Param | Expr::Div(_, _) | Expr::Sum { .. } | Expr::Prod { .. } => Ok(()),
+    }
+}
+
+// The number, where it is one.
+fn number_of(e: &Expr) -> Option<i128>
+    ensures { IfSome result (λ n. tree_of e.now ≡ numeral n) }
+{
+    match e {
+        Expr::Num(n) => Some(*n),
+        _ => None,
+    }
+}
+
+/// The coefficients of a plain polynomial, the lowest first. Zeros may stand at the end.
+pub fn collected(alloc: Global, e: &Expr) -> Result<Vec<Rat>, Stop>
+    requires { IsPlain (tree_of e.now) }
+    ensures value { IfOk result (λ p. (k : ℤ) → Worth (val (tree_of e.now) (pos 0) k) (value_at p.items (whole_value 0 k))) }
+    ensures wide { IfErr result KeepsWideStep }
+{
+    let mut sum = Vec::new(alloc);
+    add_multiple(alloc, &mut sum, Rat::whole(1), e)?;
+    Ok(sum)
+}
+
+// The coefficients of a plain polynomial, the lowest first, by sums, products and powers of such lists. Zeros may stand at the end.
+fn coefficients(alloc: Global, e: &Expr) -> Result<Row<Rat>, Stop>
+    requires { IsPlain (tree_of e.now) }
+    ensures value { IfOk result (λ p. (x : Value 0) → value_at p x ≡ plain_value (tree_of e.now) x) }
     ensures wide { IfErr result KeepsWideStep }
 {
     match e {

@@ -11,8 +11,8 @@ use crate::step::{product, sum};
 use sg_num::{Rat, Row, Stop};
 use std::alloc::{AllocError, Global};
 
-// The coefficient at i; 0 past the end.
-fn coefficient(p: &[Rat], i: usize) -> Rat
+/// The coefficient at i; 0 past the end.
+pub fn coefficient(p: &[Rat], i: usize) -> Rat
     ensures { (x : Value 0) → value_at (drop i p.now) x ≡ number result +ᵛ x *ᵛ value_at (drop (i + 1) p.now) x }
 {
     if i < p.len() { p[i] } else { Rat::whole(0) }

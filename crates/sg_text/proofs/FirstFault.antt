@@ -36,7 +36,7 @@ pub first_of-append : (xs ys : List Fault) → first_of (xs ++ ys) ≡ earlier (
 first_of-append [] ys = refl
 first_of-append (f ∷ xs) ys = ap (earlier (Some f)) (first_of-append xs ys) ∙ earlier_assoc (Some f) (first_of xs) (first_of ys)
 
-pub ruleset appended = (first_of-append)
+pub ruleset appended = (first_of-append, earlier_assoc)
 
 rank_small : (k : Kind) → rank k ≤ 3
 rank_small numeral_fault = omega arith

@@ -11,7 +11,7 @@ use Rattle.sg_spec.specs.Syntax.{Spot, Placed, number, named, negated, added, su
 use Rattle.sg_text.specs.declared.node.Mark.{Mark}
 use Rattle.sg_text.specs.declared.node.Numeral.{Numeral}
 use Rattle.sg_text.specs.declared.node.Head.{Head}
-use Rattle.sg_text.specs.declared.node.Node.{Node, Number, Named, Negated', Added', Subtracted', Multiplied', Divided', Raised', SumCall', ProductCall', Harmonic, HarmonicOfOrder, Factorial, Binomial', ConstantPower'}
+use Rattle.sg_text.specs.declared.node.Node.{Node, Number, LargeNumber, Named, Negated', Added', Subtracted', Multiplied', Divided', Raised', SumCall', ProductCall', Harmonic, HarmonicOfOrder, Factorial, Binomial', ConstantPower'}
 use Rattle.sg_text.specs.declared.draft.Draft.{Draft}
 
 abbrev pub capped : ℕ → ℕ
@@ -35,18 +35,19 @@ abbrev pub numeral_spot : Numeral → Spot
 numeral_spot n = record { place = n.at; value = value_of n.value }
 
 abbrev pub placed_of : Node → Placed
-placed_of (Number n) = number (numeral_spot n)
+placed_of (Number at v) = number (record { place = at; value = v })
+placed_of (LargeNumber n) = number (numeral_spot n.value)
 placed_of (Named m) = named (mark_spot m)
 placed_of (Negated' p x) = negated (placed_of x)
 placed_of (Added' p x q y) = added (placed_of x) (placed_of y)
 placed_of (Subtracted' p x q y) = subtracted (placed_of x) (placed_of y)
 placed_of (Multiplied' p x q y) = multiplied (placed_of x) (placed_of y)
 placed_of (Divided' p x m q y) = divided (placed_of x) (mark_spot m) (placed_of y)
-placed_of (Raised' p x n) = raised (placed_of x) (numeral_spot n)
-placed_of (SumCall' h p x) = sum_call (mark_spot h.call) (mark_spot h.bound) (mark_spot h.sign) (numeral_spot h.lower) (mark_spot h.upper) (placed_of x)
-placed_of (ProductCall' h p x) = product_call (mark_spot h.call) (mark_spot h.bound) (mark_spot h.sign) (numeral_spot h.lower) (mark_spot h.upper) (placed_of x)
+placed_of (Raised' p x n) = raised (placed_of x) (numeral_spot n.value)
+placed_of (SumCall' h p x) = sum_call (mark_spot h.value.call) (mark_spot h.value.bound) (mark_spot h.value.sign) (numeral_spot h.value.lower) (mark_spot h.value.upper) (placed_of x)
+placed_of (ProductCall' h p x) = product_call (mark_spot h.value.call) (mark_spot h.value.bound) (mark_spot h.value.sign) (numeral_spot h.value.lower) (mark_spot h.value.upper) (placed_of x)
 placed_of (Harmonic c v) = harmonic (mark_spot c) (mark_spot v)
-placed_of (HarmonicOfOrder c v r) = harmonic_of_order (mark_spot c) (mark_spot v) (numeral_spot r)
+placed_of (HarmonicOfOrder c v r) = harmonic_of_order (mark_spot c) (mark_spot v) (numeral_spot r.value)
 placed_of (Factorial c v) = factorial (mark_spot c) (mark_spot v)
 placed_of (Binomial' c m p x v) = binomial (mark_spot c) (mark_spot m) (placed_of x) (mark_spot v)
 placed_of (ConstantPower' c p x v) = constant_power (mark_spot c) (placed_of x) (mark_spot v)
@@ -57,7 +58,7 @@ draft_of d = record {
   last = d.last;
   marks = map mark_spot (reverse d.marks.items);
   numbers = map numeral_spot (reverse d.numbers.items);
-  trees = map placed_of (reverse d.trees.items);
+  trees = map (λ b. placed_of b.value) (reverse d.trees.items);
 }
 
 abbrev pub with_mark : Spot → State → State

@@ -4,6 +4,7 @@ pub mod Parts
 pub mod Drafts
 pub mod Machines
 pub mod Firsts
+pub mod Sizes
 pub mod Scopes
 pub mod Limited
 pub mod Fits

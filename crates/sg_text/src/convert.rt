@@ -1,7 +1,8 @@
-//! The expression of a node, with the shorthands written out. What `expr_of` calls stays a call, so that its own frame, of
-//! which there is one for each level of a text, is small.
-ghost use Rattle.std.specs.Prelude.{◌≡◌, ◌<◌, ◌≤◌, ◌^◌, pos, IfOk};
-ghost use Rattle.sg_spec.specs.Tree.{add, neg, mul, div, power, sum_from, prod_from, numeral, here};
+//! The expression of a node, with the shorthands written out. Each node is let go before what takes its place is made, so
+//! that both need the room of one of them; and what makes a part stays a call, so that the frame of the function that goes
+//! down a text is small.
+ghost use Rattle.std.specs.Prelude.{◌≡◌, ◌<◌, ◌≤◌, ◌^◌, cond, pos, IfOk};
+ghost use Rattle.sg_spec.specs.Tree.{add, neg, mul, div, power, sum_from, prod_from, numeral, here, param};
 ghost use Rattle.sg_spec.specs.Reading.{signed, harmonic_sum, binomial_product, tree_in};
 ghost use Rattle.sg_expr.specs.Tree.{tree_of};
 ghost use Rattle.sg_text.specs.Drafts.{value_of, placed_of};
@@ -13,7 +14,7 @@ use crate::scope::Scope;
 use sg_expr::Expr;
 use std::alloc::{AllocError, Global};
 
-/// The number; any, where it doesn't fit.
+// The number; any, where it doesn't fit.
 fn numeral_of(n: Numeral) -> i128
     ensures { value_of n.value < 2 ^ 127 → result ≡ pos (value_of n.value) }
 {
@@ -26,8 +27,9 @@ fn numeral_of(n: Numeral) -> i128
     }
 }
 
-fn exponent_of(n: Numeral) -> u128
-    ensures { value_of n.value < 2 ^ 128 → result ≡ value_of n.value }
+#[inline(never)]
+fn exponent_of(n: &Numeral) -> u128
+    ensures { value_of n.now.value < 2 ^ 128 → result ≡ value_of n.now.value }
 {
     match n.value {
         Some(v) => v,
@@ -35,8 +37,9 @@ fn exponent_of(n: Numeral) -> u128
     }
 }
 
-fn lower_limit(head: Head) -> i64
-    ensures { value_of head.lower.value ≤ 1000 → result ≡ signed head.sign.value (value_of head.lower.value) }
+#[inline(never)]
+fn lower_limit(head: &Head) -> i64
+    ensures { value_of head.now.lower.value ≤ 1000 → result ≡ signed head.now.sign.value (value_of head.now.lower.value) }
 {
     let size = match head.lower.value {
         Some(v) => if v <= 1000 { v as i64 } else { 0 },
@@ -46,98 +49,117 @@ fn lower_limit(head: Head) -> i64
 }
 
 #[inline(never)]
-fn sum_over(alloc: Global, from: i64, body: Expr) -> Result<Expr, AllocError>
-    ensures { IfOk result (λ e. tree_of e ≡ sum_from from (tree_of body)) }
+fn boxed(alloc: Global, x: Expr) -> Result<Box<Expr>, AllocError>
+    ensures { IfOk result (λ e. tree_of e.value ≡ tree_of x) }
 {
-    let body = Box::new(alloc, body)?;
-    Ok(Expr::Sum { from, body })
+    Ok(Box::new(alloc, x)?)
 }
 
 #[inline(never)]
-fn product_over(alloc: Global, from: i64, body: Expr) -> Result<Expr, AllocError>
-    ensures { IfOk result (λ e. tree_of e ≡ prod_from from (tree_of body)) }
+fn sum_over(alloc: Global, from: i64, body: Box<Expr>) -> Result<Box<Expr>, AllocError>
+    ensures { IfOk result (λ e. tree_of e.value ≡ sum_from from (tree_of body.value)) }
 {
-    let body = Box::new(alloc, body)?;
-    Ok(Expr::Prod { from, body })
+    Ok(Box::new(alloc, Expr::Sum { from, body })?)
 }
 
 #[inline(never)]
-fn added(alloc: Global, x: Expr, y: Expr) -> Result<Expr, AllocError>
-    ensures { IfOk result (λ e. tree_of e ≡ add (tree_of x) (tree_of y)) }
+fn product_over(alloc: Global, from: i64, body: Box<Expr>) -> Result<Box<Expr>, AllocError>
+    ensures { IfOk result (λ e. tree_of e.value ≡ prod_from from (tree_of body.value)) }
 {
-    let x = Box::new(alloc, x)?;
-    let y = Box::new(alloc, y)?;
-    Ok(Expr::Add(x, y))
+    Ok(Box::new(alloc, Expr::Prod { from, body })?)
 }
 
 #[inline(never)]
-fn negated(alloc: Global, x: Expr) -> Result<Expr, AllocError>
-    ensures { IfOk result (λ e. tree_of e ≡ neg (tree_of x)) }
+fn added(alloc: Global, x: Box<Expr>, y: Box<Expr>) -> Result<Box<Expr>, AllocError>
+    ensures { IfOk result (λ e. tree_of e.value ≡ add (tree_of x.value) (tree_of y.value)) }
 {
-    let x = Box::new(alloc, x)?;
-    Ok(Expr::Neg(x))
+    Ok(Box::new(alloc, Expr::Add(x, y))?)
 }
 
 #[inline(never)]
-fn multiplied(alloc: Global, x: Expr, y: Expr) -> Result<Expr, AllocError>
-    ensures { IfOk result (λ e. tree_of e ≡ mul (tree_of x) (tree_of y)) }
+fn negated(alloc: Global, x: Box<Expr>) -> Result<Box<Expr>, AllocError>
+    ensures { IfOk result (λ e. tree_of e.value ≡ neg (tree_of x.value)) }
 {
-    let x = Box::new(alloc, x)?;
-    let y = Box::new(alloc, y)?;
-    Ok(Expr::Mul(x, y))
+    Ok(Box::new(alloc, Expr::Neg(x))?)
 }
 
 #[inline(never)]
-fn divided(alloc: Global, x: Expr, y: Expr) -> Result<Expr, AllocError>
-    ensures { IfOk result (λ e. tree_of e ≡ div (tree_of x) (tree_of y)) }
+fn multiplied(alloc: Global, x: Box<Expr>, y: Box<Expr>) -> Result<Box<Expr>, AllocError>
+    ensures { IfOk result (λ e. tree_of e.value ≡ mul (tree_of x.value) (tree_of y.value)) }
 {
-    let x = Box::new(alloc, x)?;
-    let y = Box::new(alloc, y)?;
-    Ok(Expr::Div(x, y))
+    Ok(Box::new(alloc, Expr::Mul(x, y))?)
 }
 
 #[inline(never)]
-fn raised(alloc: Global, x: Expr, e: u128) -> Result<Expr, AllocError>
-    ensures { IfOk result (λ t. tree_of t ≡ power (tree_of x) e) }
+fn divided(alloc: Global, x: Box<Expr>, y: Box<Expr>) -> Result<Box<Expr>, AllocError>
+    ensures { IfOk result (λ e. tree_of e.value ≡ div (tree_of x.value) (tree_of y.value)) }
 {
-    let x = Box::new(alloc, x)?;
-    Ok(Expr::Pow(x, e))
+    Ok(Box::new(alloc, Expr::Div(x, y))?)
+}
+
+#[inline(never)]
+fn raised(alloc: Global, x: Box<Expr>, e: u128) -> Result<Box<Expr>, AllocError>
+    ensures { IfOk result (λ t. tree_of t.value ≡ power (tree_of x.value) e) }
+{
+    Ok(Box::new(alloc, Expr::Pow(x, e))?)
 }
 
 /// The sum of the reciprocals of the powers of this order.
 #[inline(never)]
-fn harmonic(alloc: Global, order: u128) -> Result<Expr, AllocError>
-    ensures { IfOk result (λ e. tree_of e ≡ harmonic_sum order) }
+fn harmonic(alloc: Global, order: u128) -> Result<Box<Expr>, AllocError>
+    ensures { IfOk result (λ e. tree_of e.value ≡ harmonic_sum order) }
 {
+    let one = boxed(alloc, Expr::Num(1))?;
+    let here = boxed(alloc, Expr::Here)?;
     let divisor = if order == 1 {
-        Expr::Here
+        here
     } else {
-        raised(alloc, Expr::Here, order)?
+        raised(alloc, here, order)?
     };
-    sum_over(alloc, 1, divided(alloc, Expr::Num(1), divisor)?)
+    sum_over(alloc, 1, divided(alloc, one, divisor)?)
 }
 
 /// The product of (x+1-j)/j.
 #[inline(never)]
-fn binomial(alloc: Global, x: Expr) -> Result<Expr, AllocError>
-    ensures { IfOk result (λ e. tree_of e ≡ binomial_product (tree_of x)) }
+fn binomial(alloc: Global, x: Box<Expr>) -> Result<Box<Expr>, AllocError>
+    ensures { IfOk result (λ e. tree_of e.value ≡ binomial_product (tree_of x.value)) }
 {
-    let next = added(alloc, x, Expr::Num(1))?;
-    let factor = added(alloc, next, negated(alloc, Expr::Here)?)?;
-    product_over(alloc, 1, divided(alloc, factor, Expr::Here)?)
+    let next = added(alloc, x, boxed(alloc, Expr::Num(1))?)?;
+    let factor = added(alloc, next, negated(alloc, boxed(alloc, Expr::Here)?)?)?;
+    product_over(alloc, 1, divided(alloc, factor, boxed(alloc, Expr::Here)?)?)
 }
 
-/// The expression of a node in this scope. The error is want of memory.
-pub fn expr_of(alloc: Global, node: &Node, scope: Scope) -> Result<Expr, AllocError>
-    ensures { IfOk result (λ e. FitsTree (placed_of node.now) → tree_of e ≡ tree_in (names_of scope) (placed_of node.now)) }
+/// The number; any, where it doesn't fit.
+#[inline(never)]
+fn number(alloc: Global, n: &Numeral) -> Result<Box<Expr>, AllocError>
+    ensures { IfOk result (λ e. value_of n.now.value < 2 ^ 127 → tree_of e.value ≡ numeral (pos (value_of n.now.value))) }
 {
-    match node {
-        Node::Number(n) => Ok(Expr::Num(numeral_of(*n))),
-        Node::Named(m) => if scope.is_variable(m.value) {
-            Ok(Expr::Here)
-        } else {
-            Ok(Expr::Param)
-        },
+    boxed(alloc, Expr::Num(numeral_of(*n)))
+}
+
+#[inline(never)]
+fn small_number(alloc: Global, v: u64) -> Result<Box<Expr>, AllocError>
+    ensures { IfOk result (λ e. tree_of e.value ≡ numeral (pos v)) }
+{
+    boxed(alloc, Expr::Num(v as i128))
+}
+
+/// The variable or the parameter.
+#[inline(never)]
+fn named(alloc: Global, is_variable: bool) -> Result<Box<Expr>, AllocError>
+    ensures { IfOk result (λ e. tree_of e.value ≡ cond is_variable here param) }
+{
+    boxed(alloc, if is_variable { Expr::Here } else { Expr::Param })
+}
+
+/// The expression of a node in this scope, in the node's place. The error is want of memory.
+pub fn expr_of(alloc: Global, node: Box<Node>, scope: &Scope) -> Result<Box<Expr>, AllocError>
+    ensures { IfOk result (λ e. FitsTree (placed_of node.value) → tree_of e.value ≡ tree_in (names_of scope.now) (placed_of node.value)) }
+{
+    match Box::into_inner(node) {
+        Node::Number(_, v) => small_number(alloc, v),
+        Node::LargeNumber(n) => number(alloc, &n),
+        Node::Named(m) => named(alloc, scope.is_variable(m.value)),
         Node::Negated(x) => negated(alloc, expr_of(alloc, x, scope)?),
         Node::Added(x, y) => {
             let left = expr_of(alloc, x, scope)?;
@@ -156,18 +178,18 @@ pub fn expr_of(alloc: Global, node: &Node, scope: Scope) -> Result<Expr, AllocEr
             let left = expr_of(alloc, x, scope)?;
             divided(alloc, left, expr_of(alloc, y, scope)?)
         }
-        Node::Raised(x, n) => raised(alloc, expr_of(alloc, x, scope)?, exponent_of(*n)),
+        Node::Raised(x, n) => raised(alloc, expr_of(alloc, x, scope)?, exponent_of(&n)),
         Node::SumCall(head, body) => {
-            let body = expr_of(alloc, body, scope.inside(head.bound.value))?;
-            sum_over(alloc, lower_limit(*head), body)
+            let body = expr_of(alloc, body, &scope.inside(head.bound.value))?;
+            sum_over(alloc, lower_limit(&head), body)
         }
         Node::ProductCall(head, body) => {
-            let body = expr_of(alloc, body, scope.inside(head.bound.value))?;
-            product_over(alloc, lower_limit(*head), body)
+            let body = expr_of(alloc, body, &scope.inside(head.bound.value))?;
+            product_over(alloc, lower_limit(&head), body)
         }
         Node::Harmonic(_, _) => harmonic(alloc, 1),
-        Node::HarmonicOfOrder(_, _, order) => harmonic(alloc, exponent_of(*order)),
-        Node::Factorial(_, _) => product_over(alloc, 1, Expr::Here),
+        Node::HarmonicOfOrder(_, _, order) => harmonic(alloc, exponent_of(&order)),
+        Node::Factorial(_, _) => product_over(alloc, 1, named(alloc, true)?),
         Node::Binomial(_, _, x, _) => binomial(alloc, expr_of(alloc, x, scope)?),
         Node::ConstantPower(_, x, _) => product_over(alloc, 1, expr_of(alloc, x, scope)?),
     }

@@ -1,6 +1,6 @@
 //! Where reading stands: the marks, numbers and trees that were made so far.
-ghost use Rattle.std.specs.Prelude.{◌≡◌, ◌+◌, ◌-◌, ◌*◌, ◌^◌, ◌<◌, min, OnOk, Some, None};
-ghost use Rattle.sg_spec.specs.Syntax.{at_start, after_byte, top_spot, top_tree};
+ghost use Rattle.std.specs.Prelude.{◌≡◌, ◌+◌, ◌-◌, ◌*◌, ◌^◌, ◌<◌, [], min, IfOk, OnOk, Some, None};
+ghost use Rattle.sg_spec.specs.Syntax.{number, at_start, after_byte, top_spot, top_tree};
 ghost use Rattle.sg_spec.specs.Grammar.{mark, letter, minus_sign, begin_number, digit, use_number, use_name, negate, add_up, subtract, multiply, divide, raise, make_sum, make_product, make_harmonic, make_harmonic_of_order, make_factorial, make_binomial, make_power};
 ghost use Rattle.sg_text.specs.Drafts.{value_of, mark_spot, numeral_spot, placed_of, draft_of, capped_action, with_mark, without_mark, with_number, without_number, with_tree, without_tree, without_head, IsHead};
 ghost use Rattle.sg_text.specs.Parts.{action_of};
@@ -16,7 +16,7 @@ pub struct Draft {
     last: u8,
     marks: Vec<Mark>,
     numbers: Vec<Numeral>,
-    trees: Vec<Node>,
+    trees: Vec<Box<Node>>,
 }
 
 fn one_more_digit(value: Option<u128>, digit: u8) -> Option<u128>
@@ -28,6 +28,29 @@ fn one_more_digit(value: Option<u128>, digit: u8) -> Option<u128>
             None => None,
         },
         None => None,
+    }
+}
+
+/// What stands for the newest tree where there is none.
+#[inline(never)]
+fn no_tree(alloc: Global) -> Result<Box<Node>, AllocError>
+    ensures { IfOk result (λ t. placed_of t.value ≡ top_tree []) }
+{
+    Ok(Box::new(alloc, Node::Number(0, 0))?)
+}
+
+/// The tree of a number.
+#[inline(never)]
+fn number_tree(alloc: Global, n: Numeral) -> Result<Node, AllocError>
+    ensures { IfOk result (λ t. placed_of t ≡ number (numeral_spot n)) }
+{
+    let small = match n.value {
+        Some(v) => u64::try_from(v).ok(),
+        None => None,
+    };
+    match small {
+        Some(v) => Ok(Node::Number(n.at, v)),
+        None => Ok(Node::LargeNumber(Box::new(alloc, n)?)),
     }
 }
 
@@ -68,9 +91,10 @@ impl Draft {
         Ok(())
     }
 
-    fn push_tree(&mut self, t: Node) -> Result<(), AllocError>
+    fn push_tree(&mut self, alloc: Global, t: Node) -> Result<(), AllocError>
         ensures { OnOk result (draft_of self.new ≡ with_tree (placed_of t) (draft_of self.old)) }
     {
+        let t = Box::new(alloc, t)?;
         self.trees.push(t)?;
         Ok(())
     }
@@ -99,16 +123,13 @@ impl Draft {
     }
 
     /// The newest tree.
-    pub fn pop_tree(&mut self) -> Node
-        ensures newest { placed_of result ≡ top_tree (draft_of self.old).trees }
-        ensures others { draft_of self.new ≡ without_tree (draft_of self.old) }
+    pub fn pop_tree(&mut self, alloc: Global) -> Result<Box<Node>, AllocError>
+        ensures newest { IfOk result (λ t. placed_of t.value ≡ top_tree (draft_of self.old).trees) }
+        ensures others { OnOk result (draft_of self.new ≡ without_tree (draft_of self.old)) }
     {
         match self.trees.pop() {
-            Some(t) => t,
-            None => Node::Number(Numeral {
-                at: 0,
-                value: Some(0),
-            }),
+            Some(t) => Ok(t),
+            None => no_tree(alloc),
         }
     }
 
@@ -157,76 +178,67 @@ impl Draft {
         self.push_number(Numeral { at: n.at, value })
     }
 
-    fn use_number(&mut self) -> Result<(), AllocError>
+    fn use_number(&mut self, alloc: Global) -> Result<(), AllocError>
         ensures { OnOk result (draft_of self.new ≡ capped_action use_number (draft_of self.old)) }
     {
         let n = self.pop_number();
-        self.push_tree(Node::Number(n))
+        let tree = number_tree(alloc, n)?;
+        self.push_tree(alloc, tree)
     }
 
-    fn use_name(&mut self) -> Result<(), AllocError>
+    fn use_name(&mut self, alloc: Global) -> Result<(), AllocError>
         ensures { OnOk result (draft_of self.new ≡ capped_action use_name (draft_of self.old)) }
     {
         let m = self.pop_mark();
-        self.push_tree(Node::Named(m))
+        self.push_tree(alloc, Node::Named(m))
     }
 
     fn negate(&mut self, alloc: Global) -> Result<(), AllocError>
         ensures { OnOk result (draft_of self.new ≡ capped_action negate (draft_of self.old)) }
     {
-        let x = self.pop_tree();
-        let x = Box::new(alloc, x)?;
-        self.push_tree(Node::Negated(x))
+        let x = self.pop_tree(alloc)?;
+        self.push_tree(alloc, Node::Negated(x))
     }
 
     fn add_up(&mut self, alloc: Global) -> Result<(), AllocError>
         ensures { OnOk result (draft_of self.new ≡ capped_action add_up (draft_of self.old)) }
     {
-        let y = self.pop_tree();
-        let x = self.pop_tree();
-        let y = Box::new(alloc, y)?;
-        let x = Box::new(alloc, x)?;
-        self.push_tree(Node::Added(x, y))
+        let y = self.pop_tree(alloc)?;
+        let x = self.pop_tree(alloc)?;
+        self.push_tree(alloc, Node::Added(x, y))
     }
 
     fn subtract(&mut self, alloc: Global) -> Result<(), AllocError>
         ensures { OnOk result (draft_of self.new ≡ capped_action subtract (draft_of self.old)) }
     {
-        let y = self.pop_tree();
-        let x = self.pop_tree();
-        let y = Box::new(alloc, y)?;
-        let x = Box::new(alloc, x)?;
-        self.push_tree(Node::Subtracted(x, y))
+        let y = self.pop_tree(alloc)?;
+        let x = self.pop_tree(alloc)?;
+        self.push_tree(alloc, Node::Subtracted(x, y))
     }
 
     fn multiply(&mut self, alloc: Global) -> Result<(), AllocError>
         ensures { OnOk result (draft_of self.new ≡ capped_action multiply (draft_of self.old)) }
     {
-        let y = self.pop_tree();
-        let x = self.pop_tree();
-        let y = Box::new(alloc, y)?;
-        let x = Box::new(alloc, x)?;
-        self.push_tree(Node::Multiplied(x, y))
+        let y = self.pop_tree(alloc)?;
+        let x = self.pop_tree(alloc)?;
+        self.push_tree(alloc, Node::Multiplied(x, y))
     }
 
     fn divide(&mut self, alloc: Global) -> Result<(), AllocError>
         ensures { OnOk result (draft_of self.new ≡ capped_action divide (draft_of self.old)) }
     {
         let place = self.pop_mark();
-        let y = self.pop_tree();
-        let x = self.pop_tree();
-        let y = Box::new(alloc, y)?;
-        let x = Box::new(alloc, x)?;
-        self.push_tree(Node::Divided(x, place, y))
+        let y = self.pop_tree(alloc)?;
+        let x = self.pop_tree(alloc)?;
+        self.push_tree(alloc, Node::Divided(x, place, y))
     }
 
     fn raise(&mut self, alloc: Global) -> Result<(), AllocError>
         ensures { OnOk result (draft_of self.new ≡ capped_action raise (draft_of self.old)) }
     {
-        let n = self.pop_number();
-        let x = self.pop_tree();
-        let x = Box::new(alloc, x)?;
-        self.push_tree(Node::Raised(x, n))
+        let n = Box::new(alloc, self.pop_number())?;
+        let x = self.pop_tree(alloc)?;
+        self.push_tree(alloc, Node::Raised(x, n))
     }
 
     fn pop_head(&mut self) -> Head
@@ -250,44 +262,42 @@ impl Draft {
     fn make_sum(&mut self, alloc: Global) -> Result<(), AllocError>
         ensures { OnOk result (draft_of self.new ≡ capped_action make_sum (draft_of self.old)) }
     {
-        let head = self.pop_head();
-        let body = self.pop_tree();
-        let body = Box::new(alloc, body)?;
-        self.push_tree(Node::SumCall(head, body))
+        let head = Box::new(alloc, self.pop_head())?;
+        let body = self.pop_tree(alloc)?;
+        self.push_tree(alloc, Node::SumCall(head, body))
     }
 
     fn make_product(&mut self, alloc: Global) -> Result<(), AllocError>
         ensures { OnOk result (draft_of self.new ≡ capped_action make_product (draft_of self.old)) }
     {
-        let head = self.pop_head();
-        let body = self.pop_tree();
-        let body = Box::new(alloc, body)?;
-        self.push_tree(Node::ProductCall(head, body))
+        let head = Box::new(alloc, self.pop_head())?;
+        let body = self.pop_tree(alloc)?;
+        self.push_tree(alloc, Node::ProductCall(head, body))
     }
 
-    fn make_harmonic(&mut self) -> Result<(), AllocError>
+    fn make_harmonic(&mut self, alloc: Global) -> Result<(), AllocError>
         ensures { OnOk result (draft_of self.new ≡ capped_action make_harmonic (draft_of self.old)) }
     {
         let v = self.pop_mark();
         let call = self.pop_mark();
-        self.push_tree(Node::Harmonic(call, v))
+        self.push_tree(alloc, Node::Harmonic(call, v))
     }
 
-    fn make_harmonic_of_order(&mut self) -> Result<(), AllocError>
+    fn make_harmonic_of_order(&mut self, alloc: Global) -> Result<(), AllocError>
         ensures { OnOk result (draft_of self.new ≡ capped_action make_harmonic_of_order (draft_of self.old)) }
     {
-        let order = self.pop_number();
+        let order = Box::new(alloc, self.pop_number())?;
         let v = self.pop_mark();
         let call = self.pop_mark();
-        self.push_tree(Node::HarmonicOfOrder(call, v, order))
+        self.push_tree(alloc, Node::HarmonicOfOrder(call, v, order))
     }
 
-    fn make_factorial(&mut self) -> Result<(), AllocError>
+    fn make_factorial(&mut self, alloc: Global) -> Result<(), AllocError>
         ensures { OnOk result (draft_of self.new ≡ capped_action make_factorial (draft_of self.old)) }
     {
         let v = self.pop_mark();
         let call = self.pop_mark();
-        self.push_tree(Node::Factorial(call, v))
+        self.push_tree(alloc, Node::Factorial(call, v))
     }
 
     fn make_binomial(&mut self, alloc: Global) -> Result<(), AllocError>
@@ -296,9 +306,8 @@ impl Draft {
         let v = self.pop_mark();
         let place = self.pop_mark();
         let call = self.pop_mark();
-        let x = self.pop_tree();
-        let x = Box::new(alloc, x)?;
-        self.push_tree(Node::Binomial(call, place, x, v))
+        let x = self.pop_tree(alloc)?;
+        self.push_tree(alloc, Node::Binomial(call, place, x, v))
     }
 
     fn make_power(&mut self, alloc: Global) -> Result<(), AllocError>
@@ -306,9 +315,8 @@ impl Draft {
     {
         let v = self.pop_mark();
         let call = self.pop_mark();
-        let x = self.pop_tree();
-        let x = Box::new(alloc, x)?;
-        self.push_tree(Node::ConstantPower(call, x, v))
+        let x = self.pop_tree(alloc)?;
+        self.push_tree(alloc, Node::ConstantPower(call, x, v))
     }
 
     /// The action is done. The error is want of memory.
@@ -321,8 +329,8 @@ impl Draft {
             Action::MinusSign => self.minus_sign(),
             Action::BeginNumber => self.begin_number(),
             Action::Digit => self.digit(),
-            Action::UseNumber => self.use_number(),
-            Action::UseName => self.use_name(),
+            Action::UseNumber => self.use_number(alloc),
+            Action::UseName => self.use_name(alloc),
             Action::Negate => self.negate(alloc),
             Action::AddUp => self.add_up(alloc),
             Action::Subtract => self.subtract(alloc),
@@ -331,9 +339,9 @@ impl Draft {
             Action::Raise => self.raise(alloc),
             Action::MakeSum => self.make_sum(alloc),
             Action::MakeProduct => self.make_product(alloc),
-            Action::MakeHarmonic => self.make_harmonic(),
-            Action::MakeHarmonicOfOrder => self.make_harmonic_of_order(),
-            Action::MakeFactorial => self.make_factorial(),
+            Action::MakeHarmonic => self.make_harmonic(alloc),
+            Action::MakeHarmonicOfOrder => self.make_harmonic_of_order(alloc),
+            Action::MakeFactorial => self.make_factorial(alloc),
             Action::MakeBinomial => self.make_binomial(alloc),
             Action::MakePower => self.make_power(alloc),
         }

@@ -91,9 +91,9 @@ impl Machine {
 }
 
 /// The tree of a text, with its places. Errors: the place at which the text stops being one, and want of memory.
-pub fn parse(alloc: Global, text: &[u8]) -> Result<Node, ReadFault>
+pub fn parse(alloc: Global, text: &[u8]) -> Result<Box<Node>, ReadFault>
     requires { length text.now < 2 ^ 32 }
-    ensures node { IfOk result (λ t. HasCappedTree text.now (placed_of t)) }
+    ensures node { IfOk result (λ t. HasCappedTree text.now (placed_of t.value)) }
     ensures fault { IfErr result (λ e. IsParseFault text.now e) }
 {
     let mut machine = Machine::new(alloc)?;
@@ -103,7 +103,8 @@ pub fn parse(alloc: Global, text: &[u8]) -> Result<Node, ReadFault>
         }
     }
     if machine.finish(alloc)? {
-        Ok(machine.draft.pop_tree())
+        let tree = machine.draft.pop_tree(alloc)?;
+        Ok(tree)
     } else {
         Err(ReadFault::Syntax {
             at: text.len() as u32,

@@ -24,10 +24,13 @@ pub struct Head {
     pub upper: Mark,
 }
 
-/// A tree as it is written. A call begins with the mark of its word.
+/// A tree as it is written. A call begins with the mark of its word. A text has up to one node a byte: so large numbers,
+/// exponents and heads stand in boxes of their own, and a node is small.
 #[derive(Drop)]
 pub enum Node {
-    Number(Numeral),
+    /// A number below 2^64, at its first digit.
+    Number(u32, u64),
+    LargeNumber(Box<Numeral>),
     Named(Mark),
     Negated(Box<Node>),
     Added(Box<Node>, Box<Node>),
@@ -35,11 +38,11 @@ pub enum Node {
     Multiplied(Box<Node>, Box<Node>),
     /// With the place of the factor after the `/`.
     Divided(Box<Node>, Mark, Box<Node>),
-    Raised(Box<Node>, Numeral),
-    SumCall(Head, Box<Node>),
-    ProductCall(Head, Box<Node>),
+    Raised(Box<Node>, Box<Numeral>),
+    SumCall(Box<Head>, Box<Node>),
+    ProductCall(Box<Head>, Box<Node>),
     Harmonic(Mark, Mark),
-    HarmonicOfOrder(Mark, Mark, Numeral),
+    HarmonicOfOrder(Mark, Mark, Box<Numeral>),
     Factorial(Mark, Mark),
     /// With the place of the first argument.
     Binomial(Mark, Mark, Box<Node>, Mark),

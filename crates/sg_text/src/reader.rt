@@ -93,7 +93,7 @@ fn outcome(alloc: Global, text: &[u8], free: &[u8], bounds: &Bounds) -> Result<E
     let scope = outer_scope(free);
     match first_fault(&node, bounds, false, scope) {
         Some(found) => Err(told(found)),
-        None => Ok(expr_of(alloc, &node, scope)?),
+        None => Ok(Box::into_inner(expr_of(alloc, node, &scope)?)),
     }
 }
 

@@ -1,4 +1,5 @@
-//! For each part of the grammar the way that the next byte tells, its last part first.
+//! For each part of the grammar the way that the next byte tells, its last part first. The ways of rare parts stay calls: else
+//! the machine works each of them out for every byte.
 ghost use Rattle.std.specs.Prelude.{◌≡◌};
 ghost use Rattle.sg_spec.specs.Grammar.{blanks, expr, more_terms, more_factors, exponent, atom, worded, order, int, const, divisor, more_digits, after_s, after_p, after_f, after_b};
 ghost use Rattle.sg_text.specs.Stack.{predict};
@@ -83,6 +84,7 @@ fn atom_way(byte: u8) -> &'static [Symbol]
     }
 }
 
+#[inline(never)]
 fn worded_way(byte: u8) -> &'static [Symbol]
     ensures { parts_of result.now ≡ predict worded byte }
 {
@@ -101,6 +103,7 @@ fn worded_way(byte: u8) -> &'static [Symbol]
     }
 }
 
+#[inline(never)]
 fn order_way(byte: u8) -> &'static [Symbol]
     ensures { parts_of result.now ≡ predict order byte }
 {
@@ -115,6 +118,7 @@ fn order_way(byte: u8) -> &'static [Symbol]
     }
 }
 
+#[inline(never)]
 fn int_way(byte: u8) -> &'static [Symbol]
     ensures { parts_of result.now ≡ predict int byte }
 {
@@ -124,6 +128,7 @@ fn int_way(byte: u8) -> &'static [Symbol]
     }
 }
 
+#[inline(never)]
 fn const_way(byte: u8) -> &'static [Symbol]
     ensures { parts_of result.now ≡ predict const byte }
 {
@@ -140,6 +145,7 @@ fn const_way(byte: u8) -> &'static [Symbol]
     }
 }
 
+#[inline(never)]
 fn divisor_way(byte: u8) -> &'static [Symbol]
     ensures { parts_of result.now ≡ predict divisor byte }
 {
@@ -165,6 +171,7 @@ fn more_digits_way(byte: u8) -> &'static [Symbol]
     }
 }
 
+#[inline(never)]
 fn after_s_way(byte: u8) -> &'static [Symbol]
     ensures { parts_of result.now ≡ predict after_s byte }
 {
@@ -180,6 +187,7 @@ fn after_s_way(byte: u8) -> &'static [Symbol]
     }
 }
 
+#[inline(never)]
 fn after_p_way(byte: u8) -> &'static [Symbol]
     ensures { parts_of result.now ≡ predict after_p byte }
 {
@@ -203,6 +211,7 @@ fn after_p_way(byte: u8) -> &'static [Symbol]
     }
 }
 
+#[inline(never)]
 fn after_f_way(byte: u8) -> &'static [Symbol]
     ensures { parts_of result.now ≡ predict after_f byte }
 {
@@ -219,6 +228,7 @@ fn after_f_way(byte: u8) -> &'static [Symbol]
     }
 }
 
+#[inline(never)]
 fn after_b_way(byte: u8) -> &'static [Symbol]
     ensures { parts_of result.now ≡ predict after_b byte }
 {

@@ -12,8 +12,8 @@ pub returns-clause-closed : goal.returns-clause-closed
 returns-clause-closed c =
     let fits : FitsSigned w128 c.in_ok-all.all.denominator = search rules in
     let fits-a : FitsSigned w64 c.args.a = search rules in
-    closed-canonical (tree_of c.args.f.now) (tree_of c.in_ok-h.h) c.in_ok-p.p c.in_ok-q.q c.as_slice.result.now c.as_slice-2.result.now c.in_ok-all.all.coefficients c.as_slice-3.result.now c.in_ok-all.all.denominator c.args.a
-    c.requires c.in_ok-p.ensures.value c.as_slice.ensures c.in_ok-q.ensures.step
+    closed-canonical (tree_of c.args.f.now) (tree_of c.in_ok-h.h) c.in_ok-p.p.items c.in_ok-q.q c.as_slice.result.now c.as_slice-2.result.now c.in_ok-all.all.coefficients c.as_slice-3.result.now c.in_ok-all.all.denominator c.args.a
+    c.requires c.in_ok-p.ensures.value c.as_slice.ensures.value c.in_ok-q.ensures.step
     (ap (λ z. value_at c.in_ok-q.q (whole_value 0 (z -ℤ pos 1))) (sym (to_z-of_z w64 c.args.a fits-a)) ∙ c.in_ok-q.ensures.start) c.as_slice-2.ensures c.in_ok-all.ensures.common c.as_slice-3.ensures
     (c.in_ok-h.ensures.tree ∙ ap (λ z. canonical c.as_slice-3.result.now (unsigned_abs z)) (to_z-of_z w128 c.in_ok-all.all.denominator fits))
 

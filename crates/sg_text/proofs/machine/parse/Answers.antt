@@ -16,8 +16,8 @@ loop-i-preserved c =
 
 pub returns-then-branch-clause-node : goal.returns-then-branch-clause-node
 returns-then-branch-clause-node c =
-    reached-end c.args.text.now c.loop-i.i (stack_of c.loop-i.machine) (state_of c.loop-i.machine) (state_of c.finish.new.self) (placed_of c.pop_tree.result) (omega arith) (omega arith) c.loop-i.invariant
-    (c.in_ok-finish.ensures.whole (search rules)) c.in_ok-finish.ensures.state c.pop_tree.ensures.newest
+    reached-end c.args.text.now c.loop-i.i (stack_of c.loop-i.machine) (state_of c.loop-i.machine) (state_of c.finish.new.self) (placed_of c.in_ok-tree.tree.value) (omega arith) (omega arith) c.loop-i.invariant
+    (c.in_ok-finish.ensures.whole (search rules)) c.in_ok-finish.ensures.state c.in_ok-tree.ensures.newest
 
 pub returns-clause-fault : goal.returns-clause-fault
 returns-clause-fault c =

@@ -14,14 +14,15 @@ pub returns-in-Some-first_fault-clause-fault : goal.returns-in-Some-first_fault-
 returns-in-Some-first_fault-clause-fault c =
     let k : IsBounds128 c.args.bounds.now = record { numeral = within_127 c.args.bounds.now.numeral (search rules); exponent = omega arith } in
     subst (λ q. RefusedBy (bounds_of c.args.bounds.now) c.args.free.now c.args.text.now q) (sym c.told.ensures)
-    (read_fault c.args.bounds.now c.args.free.now c.args.text.now (placed_of c.in_ok-node.node) (fault_of c.in-Some-first_fault.found) k
+    (read_fault c.args.bounds.now c.args.free.now c.args.text.now (placed_of c.in_ok-node.node.value) (fault_of c.in-Some-first_fault.found) k
     (keeps_size c.args.bounds.now c.args.text.now (omega arith) c.in-None.ensures) c.in_ok-node.ensures.node
-    (c.in-Some-first_fault.ensures ∙ ap (λ q. first_of (faults (limits_of c.args.bounds.now) false q (placed_of c.in_ok-node.node))) c.outer_scope-scope.ensures))
+    ((rw c.deref.ensures at c.in-Some-first_fault.ensures) ∙ ap (λ q. first_of (faults (limits_of c.args.bounds.now) false q (placed_of c.in_ok-node.node.value))) c.outer_scope-scope.ensures))
 
-pub returns-clause-expression : goal.returns-clause-expression
-returns-clause-expression c =
+pub returns-in_ok-expr_of-in-None-first_fault-clause-expression : goal.returns-in_ok-expr_of-in-None-first_fault-clause-expression
+returns-in_ok-expr_of-in-None-first_fault-clause-expression c =
     let k : IsBounds128 c.args.bounds.now = record { numeral = within_127 c.args.bounds.now.numeral (search rules); exponent = omega arith } in
-    read_tree c.args.bounds.now c.args.free.now c.args.text.now (placed_of c.in_ok-node.node) (tree_of c.in_ok-expr_of-in-None-first_fault.field-0) k
+    rw c.into_inner.ensures
+    (read_tree c.args.bounds.now c.args.free.now c.args.text.now (placed_of c.in_ok-node.node.value) (tree_of c.in_ok-expr_of-in-None-first_fault.field-0.value) k
     (keeps_size c.args.bounds.now c.args.text.now (omega arith) c.in-None.ensures) c.in_ok-node.ensures.node
-    (c.in-None-first_fault.ensures ∙ ap (λ q. first_of (faults (limits_of c.args.bounds.now) false q (placed_of c.in_ok-node.node))) c.outer_scope-scope.ensures)
-    (λ h. c.in_ok-expr_of-in-None-first_fault.ensures h ∙ ap (λ q. tree_in q (placed_of c.in_ok-node.node)) c.outer_scope-scope.ensures)
+    ((rw c.deref.ensures at c.in-None-first_fault.ensures) ∙ ap (λ q. first_of (faults (limits_of c.args.bounds.now) false q (placed_of c.in_ok-node.node.value))) c.outer_scope-scope.ensures)
+    (λ h. c.in_ok-expr_of-in-None-first_fault.ensures h ∙ ap (λ q. tree_in q (placed_of c.in_ok-node.node.value)) c.outer_scope-scope.ensures))

@@ -10,11 +10,11 @@ use Rattle.std.proofs.lemmas.Bool.Decides.{nat_tests}
 use Rattle.sg_spec.specs.Grammar.{Action, mark, letter, minus_sign, begin_number, digit, use_number, use_name, negate, add_up, subtract, multiply, divide, raise, make_sum, make_product, make_harmonic, make_harmonic_of_order, make_factorial, make_binomial, make_power, Symbol, text, Builds, none_left, eats, acts, opens_by}
 use Rattle.sg_spec.specs.Syntax.{Spot, Placed, number, named, negated, added, subtracted, multiplied, divided, raised, sum_call, product_call, harmonic, harmonic_of_order, factorial, binomial, constant_power, State, at_start, after_byte, after_action, top_spot, top_tree, rest, with_digit}
 use Rattle.sg_spec.specs.Reading.{numeral_fault, Limits, fault_unless, is_small, is_polynomial, is_divisor, is_constant, inside, faults, HasTree}
-use Rattle.sg_text.specs.Drafts.{capped, with_capped_digit, capped_action}
-use Rattle.sg_text.specs.Machines.{HasCappedTree}
+use Rattle.sg_syntax.specs.Drafts.{capped, with_capped_digit, capped_action}
+use Rattle.sg_syntax.specs.Machines.{HasCappedTree}
 use Rattle.sg_text.specs.Fits.{FitsTree}
-use Rattle.sg_text.proofs.Way.{spelled}
-use Rattle.sg_text.proofs.Runs.{built_is, some_state, good_start}
+use Rattle.sg_syntax.proofs.Way.{spelled}
+use Rattle.sg_syntax.proofs.Runs.{built_is, some_state, good_start}
 
 abbrev pub cap_spot : Spot → Spot
 cap_spot s = record { place = s.place; value = capped s.value }

@@ -1,7 +1,7 @@
 -- Open parentheses, counted byte by byte.
 --   open_after-take     one more byte
 --   Flat                so far no more than these are open
---   flat-start, flat-next, flat-deep, flat-all     at the start, after a byte, at a byte that is too deep, at the end
+--   flat-next, flat-deep     after a byte, at a byte that is too deep
 use Rattle.std.specs.Prelude.{◌≡◌, ◌==◌, ℕ, ◌+◌, ◌-◌, ◌≤◌, ◌<◌, ◌⊎◌, cond, List, [], ◌∷◌, ◌++◌, length, take, slice_index_or}
 use Rattle.std.proofs.Common.{refl, sym, ap, ◌∙◌, subst, arith, add-one, inl, inr}
 use Rattle.std.proofs.Math.Seq.{take-suc}
@@ -22,9 +22,6 @@ pub record Flat (w : List ℕ) (most i count : ℕ) : Type 0 where
   pub small : count ≤ most
   pub below : (q : ℕ) → q < i → open_after (take (q + 1) w) ≤ most
 
-pub flat-start : (w : List ℕ) (most : ℕ) → Flat w most 0 0
-flat-start w most = record { counts = refl; small = omega arith; below = λ q h. absurd (omega arith) }
-
 before_or_at : (q i : ℕ) → q < i + 1 → (q < i) ⊎ (q ≡ i)
 before_or_at q i h = grind arith
 
@@ -44,6 +41,3 @@ flat-deep w most i count next h f e m =
       deep = subst (λ n. most < n) (e ∙ (ap (λ n. with_byte n (slice_index_or w i 0)) f.counts ∙ sym (open_after-take w i h))) m;
       before = f.below;
     }
-
-pub flat-all : (w : List ℕ) (most i count : ℕ) → length w ≤ i → Flat w most i count → (q : ℕ) → q < length w → open_after (take (q + 1) w) ≤ most
-flat-all w most i count h f q l = f.below q (omega arith)

@@ -12,7 +12,7 @@ use Rattle.sg_spec.specs.Reading.{Fault, faults, tree_in, open_after, KeepsSize,
 use Rattle.sg_expr.specs.declared.tree.Expr.{Expr}
 use Rattle.sg_expr.specs.Tree.{tree_of}
 use Rattle.sg_text.specs.Firsts.{first_of}
-use Rattle.sg_text.specs.Machines.{HasCappedTree}
+use Rattle.sg_syntax.specs.Machines.{HasCappedTree}
 use Rattle.sg_text.specs.Limited.{is_within, limits_of, bounds_of}
 use Rattle.sg_text.specs.Fits.{FitsTree}
 use Rattle.sg_text.specs.Reads.{refusal_of, RefusedBy, Refuses, OneTree}
@@ -21,8 +21,8 @@ use Rattle.sg_text.specs.declared.fault.ReadFault.{ReadFault}
 use Rattle.sg_text.proofs.FirstFault.{first_is, none_is}
 use Rattle.sg_text.proofs.Capping.{IsSteady, uncapped, faults-cap, FitsTree-uncapped}
 use Rattle.sg_text.proofs.Within.{is_within-capped, at_most-capped, Fit128, FitsTree-faults, faults-unlimited}
-use Rattle.sg_text.proofs.Unique.{Reads-unique}
-use Rattle.sg_text.proofs.Exclusive.{IsRead-unique, IsRefused-unique, read_not_refused}
+use Rattle.sg_syntax.proofs.Unique.{Reads-unique}
+use Rattle.sg_syntax.proofs.Exclusive.{IsRead-unique, IsRefused-unique, read_not_refused}
 
 -- bounds of 128 bits
 pub record IsBounds128 (b : Bounds) : Type 0 where

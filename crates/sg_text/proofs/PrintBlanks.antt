@@ -42,10 +42,6 @@ joined : (v w : List ℕ) → Inked v → Inked w → Inked (v ++ w)
 joined [] w h k = k
 joined (c ∷ v) w h k = (h.0, joined v w h.1 k)
 
-right_part : (v w : List ℕ) → Inked (v ++ w) → Inked w
-right_part [] w h = h
-right_part (c ∷ v) w h = right_part v w h.1
-
 left_part : (v w : List ℕ) → Inked (v ++ w) → Inked v
 left_part [] w h = tt
 left_part (c ∷ v) w h = (h.0, left_part v w h.1)

@@ -11,8 +11,8 @@ use Rattle.std.specs.Char.{digit_value}
 use Rattle.std.specs.Str.Parse.{AllDigits, IsNumeral, digits_value, digits_value_after}
 use Rattle.std.proofs.lemmas.Str.Parse.{digit_from_value}
 use Rattle.sg_spec.specs.Tree.{Tree}
-use Rattle.sg_spec.specs.Grammar.{Action, mark, letter, begin_number, digit, use_number, use_name, negate, add_up, subtract, multiply, divide, raise, Symbol, span, act, blanks, text, expr, more_terms, term, more_factors, factor, exponent, atom, worded, variable, digits, more_digits, rules, IsOneOf, first, later, is_act, Builds, none_left, eats, acts, opens_by}
-use Rattle.sg_spec.specs.Syntax.{Spot, Placed, number, named, negated, added, subtracted, multiplied, divided, raised, State, at_start, after_byte, after_action, top_tree}
+use Rattle.sg_spec.specs.Grammar.{Action, mark, letter, begin_number, digit, use_name, negate, add_up, subtract, multiply, divide, raise, Symbol, span, act, blanks, text, expr, more_terms, term, more_factors, factor, exponent, atom, worded, variable, digits, more_digits, rules, IsOneOf, first, later, is_act, Builds, none_left, eats, acts, opens_by}
+use Rattle.sg_spec.specs.Syntax.{Spot, Placed, named, negated, added, subtracted, multiplied, divided, raised, State, at_start, after_byte, after_action, top_tree}
 use Rattle.sg_spec.specs.Reading.{tree_in, is_divisor, Limits, faults, unlimited, Reads}
 
 abbrev pub Ends : (Placed → Type 0) → List Symbol → List ℕ → State → Type 0
@@ -184,12 +184,6 @@ module _ (G : Placed → Type 0) where
       (one_digit c p 0 cs more (blanks ∷ parts) p l marks numbers trees (h.1).0
       (further_digits cs more (blanks ∷ parts) (p + 1) c p (0 * 10 + digit_value c) marks numbers trees (h.1).1
       (λ q k. ends_blanks parts more (reading q k marks (at_spot p (digits_value 10 (c ∷ cs)) ∷ numbers) trees) (f q k p)))))
-
-  pub atom-number : {P : Placed → Type 0} (w : List ℕ) → IsNumeral 10 w → ((s : ℕ) → P (number (at_spot s (digits_value 10 w)))) → Atom P w
-  atom-number w h r parts more p l marks numbers trees f =
-      ends_way atom (digits ∷ act use_number ∷ []) parts (w ++ more) (reading p l marks numbers trees) refl first
-      (all_digits w more (act use_number ∷ parts) p l marks numbers trees h
-      (λ q k s. ends_act use_number parts more (reading q k marks (at_spot s (digits_value 10 w) ∷ numbers) trees) (f q k (number (at_spot s (digits_value 10 w))) (r s))))
 
   pub atom-name : {P : Placed → Type 0} (c : ℕ) → 97 ≤ c → c ≤ 122 → ((s : ℕ) → P (named (at_spot s c))) → Atom P (c ∷ [])
   atom-name c low high r parts more p l marks numbers trees f =

@@ -7,7 +7,7 @@ use Rattle.std.proofs.Common.{refl, ap, ◌∙◌, arith}
 use Rattle.std.proofs.lemmas.Bool.Decides.{nat_tests}
 use Rattle.sg_spec.specs.Syntax.{Spot, Placed, number, named, negated, added, subtracted, multiplied, divided, raised, sum_call, product_call, harmonic, harmonic_of_order, factorial, binomial, constant_power}
 use Rattle.sg_spec.specs.Reading.{Kind, numeral_fault, exponent_fault, form, Fault, Limits, unlimited, fault_unless, is_small, is_variable, is_parameter, is_divisor, is_constant, call_faults, bound_faults, inside, faults}
-use Rattle.sg_text.specs.Drafts.{capped}
+use Rattle.sg_syntax.specs.Drafts.{capped}
 use Rattle.sg_text.specs.Limited.{is_within}
 use Rattle.sg_text.specs.Fits.{FitsTree}
 

@@ -1,8 +1,3 @@
-pub mod Ranges
-pub mod Stack
-pub mod Parts
-pub mod Drafts
-pub mod Machines
 pub mod Firsts
 pub mod Sizes
 pub mod Scopes

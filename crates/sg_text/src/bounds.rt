@@ -1,10 +1,10 @@
 //! What a reader takes.
 ghost use Rattle.std.specs.Prelude.{◌≡◌, ◌-◌, ◌^◌, pos};
 ghost use Rattle.sg_spec.specs.Reading.{is_small};
-ghost use Rattle.sg_text.specs.Drafts.{value_of};
+ghost use Rattle.sg_syntax.specs.Drafts.{value_of};
 ghost use Rattle.sg_text.specs.Limited.{limits_of};
 
-use crate::node::Numeral;
+use sg_syntax::Numeral;
 
 /// How many bytes and open parentheses a text may have, and how large its numbers and exponents may be.
 #[derive(Clone, Copy)]

@@ -2,14 +2,14 @@
 ghost use Rattle.std.specs.Prelude.{◌≡◌, ◌==◌, ◌&&◌, ◌++◌, not};
 ghost use Rattle.sg_spec.specs.Reading.{is_polynomial as is_polynomial_in, is_divisor as is_divisor_in, is_constant as is_constant_in, call_faults, bound_faults, faults, fault_unless, numeral_fault, exponent_fault, form};
 ghost use Rattle.sg_text.specs.Firsts.{first_of};
-ghost use Rattle.sg_text.specs.Drafts.{value_of, mark_spot, numeral_spot, placed_of};
+ghost use Rattle.sg_syntax.specs.Drafts.{value_of, mark_spot, numeral_spot, placed_of};
 ghost use Rattle.sg_text.specs.Scopes.{names_of, found_of};
 ghost use Rattle.sg_text.specs.Limited.{limits_of};
 
 use crate::bounds::{Bounds, is_small};
 use crate::found::{Found, Kind, earlier, unless};
-use crate::node::{Head, Mark, Node, Numeral};
 use crate::scope::Scope;
+use sg_syntax::{Head, Mark, Node, Numeral};
 
 /// Whether it is built from numbers, the variable and the parameter without calls and divisions.
 fn is_polynomial(node: &Node, scope: Scope) -> bool

@@ -5,13 +5,13 @@ ghost use Rattle.std.specs.Prelude.{◌≡◌, ◌<◌, ◌≤◌, ◌^◌, cond
 ghost use Rattle.sg_spec.specs.Tree.{add, neg, mul, div, power, sum_from, prod_from, numeral, here, param};
 ghost use Rattle.sg_spec.specs.Reading.{signed, harmonic_sum, binomial_product, tree_in};
 ghost use Rattle.sg_expr.specs.Tree.{tree_of};
-ghost use Rattle.sg_text.specs.Drafts.{value_of, placed_of};
+ghost use Rattle.sg_syntax.specs.Drafts.{value_of, placed_of};
 ghost use Rattle.sg_text.specs.Scopes.{names_of};
 ghost use Rattle.sg_text.specs.Fits.{FitsTree};
 
-use crate::node::{Head, Node, Numeral};
 use crate::scope::Scope;
 use sg_expr::Expr;
+use sg_syntax::{Head, Node, Numeral};
 use std::alloc::{AllocError, Global};
 
 // The number; any, where it doesn't fit.

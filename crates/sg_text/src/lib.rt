@@ -2,19 +2,15 @@
 #![tactic(auto)]
 
 mod bounds;
+mod bytes;
 mod check;
 mod convert;
-mod draft;
 mod fault;
 mod found;
-mod machine;
-mod node;
 mod printing;
 mod rational;
 mod reader;
 mod scope;
-mod symbol;
-mod ways;
 
 pub use bounds::Bounds;
 pub use fault::ReadFault;

@@ -8,6 +8,7 @@ ghost use Rattle.sg_text.specs.Reads.{IsFree};
 ghost use Rattle.sg_text.specs.PrintedText.{next_bound, sign_of, is_one, is_numeral, is_here, is_minus_here, power_order, harmonic_order, is_falling, is_quotient, body_form, product_form, written, written_sum, left_of, level_of, is_below, text_at, added_text, limit_text, call_text, plain, printed};
 ghost use Rattle.sg_expr.specs.Tree.{tree_of};
 
+use crate::bytes::push_all;
 use itoa::Buffer;
 use sg_expr::Expr;
 use sg_num::Row;
@@ -52,15 +53,6 @@ impl Scope {
             bound: if self.bound == b'j' { b'i' } else { b'j' },
         }
     }
-}
-
-fn push_all(out: &mut Row<u8>, bytes: &[u8]) -> Result<(), AllocError>
-    ensures { OnOk result (out.new ≡ out.old ++ bytes.now) }
-{
-    for b in bytes {
-        out.push(*b)?;
-    }
-    Ok(())
 }
 
 fn push_number(out: &mut Row<u8>, n: u128) -> Result<(), AllocError>

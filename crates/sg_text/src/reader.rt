@@ -3,9 +3,11 @@ ghost use Rattle.std.specs.Prelude.{◌≡◌, ◌==◌, ◌⊎◌, ℕ, ◌+◌
 ghost use Rattle.sg_spec.specs.Tree.{Tree};
 ghost use Rattle.sg_spec.specs.Reading.{open_after, IsDeep, Refusal, IsRefused, IsRead};
 ghost use Rattle.sg_expr.specs.Tree.{tree_of};
+ghost use Rattle.sg_syntax.specs.Drafts.{placed_of};
+ghost use Rattle.sg_syntax.specs.Machines.{HasCappedTree};
 ghost use Rattle.sg_text.specs.Scopes.{names_of, fault_of};
 ghost use Rattle.sg_text.specs.Limited.{bounds_of};
-ghost use Rattle.sg_text.specs.Reads.{IsFree, refusal_of, Refuses, OneTree};
+ghost use Rattle.sg_text.specs.Reads.{IsFree, IsTextFault, refusal_of, Refuses, OneTree};
 ghost use Rattle.sg_spec.specs.Reading.{faulty};
 
 use crate::bounds::Bounds;
@@ -13,9 +15,9 @@ use crate::check::first_fault;
 use crate::convert::expr_of;
 use crate::fault::ReadFault;
 use crate::found::{Found, Kind};
-use crate::machine::parse;
 use crate::scope::Scope;
 use sg_expr::Expr;
+use sg_syntax::{Node, SyntaxFault, parse};
 use std::alloc::Global;
 
 /// How many parentheses are open after this byte.
@@ -70,6 +72,19 @@ fn outer_scope(free: &[u8]) -> Scope
     }
 }
 
+/// The tree of a text, with its places.
+fn placed(alloc: Global, text: &[u8]) -> Result<Box<Node>, ReadFault>
+    requires { length text.now < 2 ^ 32 }
+    ensures node { IfOk result (λ t. HasCappedTree text.now (placed_of t.value)) }
+    ensures fault { IfErr result (λ e. IsTextFault text.now e) }
+{
+    match parse(alloc, text) {
+        Ok(node) => Ok(node),
+        Err(SyntaxFault::Syntax { at }) => Err(ReadFault::Syntax { at }),
+        Err(SyntaxFault::Memory(want)) => Err(ReadFault::Memory(want)),
+    }
+}
+
 /// The answer of `read`, test after test.
 fn outcome(alloc: Global, text: &[u8], free: &[u8], bounds: &Bounds) -> Result<Expr, ReadFault>
     requires { IsFree free.now }
@@ -89,7 +104,7 @@ fn outcome(alloc: Global, text: &[u8], free: &[u8], bounds: &Bounds) -> Result<E
         Some(at) => return Err(ReadFault::Deep { at }),
         None => {}
     }
-    let node = parse(alloc, text)?;
+    let node = placed(alloc, text)?;
     let scope = outer_scope(free);
     match first_fault(&node, bounds, false, scope) {
         Some(found) => Err(told(found)),

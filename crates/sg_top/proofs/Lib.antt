@@ -1,3 +1,2 @@
 pub mod Sending
-pub mod Commands
 pub mod Replies

@@ -1,6 +1,6 @@
 use Rattle.std.proofs.Common.{◌≡◌, ◌≤◌, ◌+◌, ◌*◌}
 use Rattle.sg_spec.specs.Reading.{faults}
-use Rattle.sg_text.specs.Drafts.{placed_of}
+use Rattle.sg_syntax.specs.Drafts.{placed_of}
 use Rattle.sg_text.specs.Firsts.{earlier, first_of}
 use Rattle.sg_text.specs.Limited.{limits_of}
 use Rattle.sg_text.specs.Scopes.{names_of, found_of}

@@ -10,7 +10,7 @@ use Rattle.sg_text.proofs.PrintReads.{reads-printed}
 use Rattle.sg_text.proofs.PrintBounds.{is_read}
 use Rattle.sg_text.proofs.PrintFewest.{printed-fewest}
 use Rattle.sg_text.proofs.PrintBlanks.{printed-blanks}
-use Rattle.sg_text.proofs.Unique.{Reads-unique}
+use Rattle.sg_syntax.proofs.Unique.{Reads-unique}
 use Rattle.sg_text.proofs.printing.print.Goals as goal
 
 record IsPrinted (w names : List ℕ) (e : Tree) : Type 0 where

@@ -1,7 +1,7 @@
 use Rattle.std.proofs.Common.{rules, sym, subst, ◌∙◌, ap, arith}
 use Rattle.sg_expr.specs.Tree.{tree_of}
 use Rattle.sg_text.specs.Limited.{bounds_of, limits_of}
-use Rattle.sg_text.specs.Drafts.{placed_of}
+use Rattle.sg_syntax.specs.Drafts.{placed_of}
 use Rattle.sg_text.specs.Scopes.{fault_of}
 use Rattle.sg_spec.specs.Reading.{faults, tree_in}
 use Rattle.sg_text.specs.Firsts.{first_of}

@@ -1,0 +1,10 @@
+pub mod Ranges
+pub mod Words
+pub mod Tables
+pub mod Way
+pub mod Runs
+pub mod Unique
+pub mod Exclusive
+pub mod Turns
+pub mod Reached
+pub mod Balance

@@ -1,0 +1,5 @@
+pub mod Ranges
+pub mod Stack
+pub mod Parts
+pub mod Drafts
+pub mod Machines

@@ -1,0 +1,9 @@
+pub mod Rows
+pub mod Powers
+pub mod Vanishing
+pub mod Steps
+pub mod Values
+pub mod Scanned
+pub mod Meeting
+pub mod Candidates
+pub mod Confirmed

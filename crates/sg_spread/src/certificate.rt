@@ -1,0 +1,105 @@
+//! A polynomial that is 0 at each shift at which two monic polynomials have a common divisor.
+ghost use Rattle.std.specs.Prelude.{◌≡◌, ℕ, ◌+◌, ◌*◌, ◌-◌, ◌<◌, ◌≤◌, [], length, map, get_or, OnOk, IfOk, IfErr};
+ghost use Rattle.sg_algebra.proofs.Value.{Value, zero_value};
+ghost use Rattle.sg_algebra.proofs.ValueField.{ValueR};
+ghost use Rattle.sg_algebra.proofs.Linear.{row_times, Span, table as vectors, Form};
+ghost use Rattle.sg_algebra.proofs.Polynomial.{coefficient};
+ghost use Rattle.sg_algebra.proofs.Rows.{Builds};
+ghost use Rattle.sg_num.specs.Stopped.{KeepsWideStep};
+ghost use Rattle.sg_num.specs.Value.{number};
+ghost use Rattle.sg_theory.proofs.Certificate.{Certificate};
+ghost use Rattle.sg_theory.proofs.PowerTable.{PowerTable};
+ghost use Rattle.sg_spread.specs.Powers.{ArePowers, IsNullBasis, IsSome};
+
+use crate::step::{first_row, row_after};
+use sg_matrix::null_basis;
+use sg_num::{Rat, Row, Stop};
+use std::alloc::{AllocError, Global};
+
+// The items of all rows at one place.
+fn column(alloc: Global, rows: &[Row<Rat>], p: usize) -> Result<Row<Rat>, AllocError>
+    requires { (t : ℕ) → t < length rows.now → p < length (get_or rows.now t []) }
+    ensures { IfOk result (λ r. Builds number (λ t. coefficient (map number (get_or rows.now t [])) p) (length rows.now) r) }
+{
+    let mut new = Row::new(alloc);
+    for t in 0..rows.len() {
+        new.push(*rows[t].get(p))?;
+    }
+    Ok(new)
+}
+
+// The rows as the columns of a table with this many rows.
+fn table(alloc: Global, rows: &[Row<Rat>], size: usize) -> Result<Row<Row<Rat>>, AllocError>
+    requires { (t : ℕ) → t < length rows.now → length (get_or rows.now t []) ≡ size }
+    ensures size { IfOk result (λ r. length r ≡ size) }
+    ensures rows { IfOk result (λ r. (p : ℕ) → p < size → Builds number (λ t. coefficient (map number (get_or rows.now t [])) p) (length rows.now) (get_or r p [])) }
+{
+    let mut all = Row::new(alloc);
+    for p in 0..size {
+        let row = column(alloc, rows, p)?;
+        all.push(row)?;
+    }
+    Ok(all)
+}
+
+// The row after one more step.
+fn grow(alloc: Global, a: &[Rat], b: &[Rat], rows: &mut Row<Row<Rat>>) -> Result<(), Stop>
+    requires some { 1 < length a.now }
+    requires others { 1 < length b.now }
+    requires begun { 0 < length rows.old }
+    requires powers { ArePowers (length a.now - 1) (length b.now - 1) (map number a.now) (map number b.now) rows.old }
+    ensures powers { OnOk result (ArePowers (length a.now - 1) (length b.now - 1) (map number a.now) (map number b.now) rows.new) }
+    ensures longer { OnOk result (length rows.new ≡ length rows.old + 1) }
+    ensures wide { IfErr result KeepsWideStep }
+{
+    let next = row_after(alloc, a, b, rows.get(rows.len() - 1).as_slice())?;
+    rows.push(next)?;
+    Ok(())
+}
+
+// The dependences of these rows.
+fn dependences(
+    alloc: Global,
+    a: &[Rat],
+    b: &[Rat],
+    rows: &Row<Row<Rat>>,
+    size: usize,
+) -> Result<Row<Row<Rat>>, Stop>
+    requires some { 1 < length a.now }
+    requires others { 1 < length b.now }
+    requires size { size ≡ (length a.now - 1) * (length b.now - 1) }
+    requires powers { ArePowers (length a.now - 1) (length b.now - 1) (map number a.now) (map number b.now) rows.now }
+    ensures basis { IfOk result (λ basis. IsNullBasis (length a.now - 1) (length b.now - 1) (map number a.now) (map number b.now) (length rows.now) basis) }
+    ensures wide { IfErr result KeepsWideStep }
+{
+    let all = table(alloc, rows.as_slice(), size)?;
+    let basis = null_basis(alloc, &all, rows.len())?;
+    Ok(basis)
+}
+
+/// The coefficients, not all 0, of a polynomial that is 0 at each shift m at which a(k) and b(k+m) have a common divisor of
+/// positive degree. `a` and `b` are the coefficients of monic polynomials of positive degree. It is the one of least degree
+/// that comes of a linear dependence of the powers of j - k, where j is a root of b and k one of a.
+pub(crate) fn certificate(alloc: Global, a: &[Rat], b: &[Rat]) -> Result<Row<Rat>, Stop>
+    requires some { 1 < length a.now }
+    requires others { 1 < length b.now }
+    ensures some { IfOk result (λ r. IsSome (map number r)) }
+    ensures certificate { IfOk result (λ r. Certificate (ValueR 0) (length a.now - 1) (length b.now - 1) (map number a.now) (map number b.now) (map number r)) }
+    ensures wide { IfErr result KeepsWideStep }
+{
+    let Some(size) = (a.len() - 1).checked_mul(b.len() - 1) else {
+        // more numbers than a memory has room for
+        return Err(Stop::Memory(AllocError));
+    };
+    let mut rows = Row::new(alloc);
+    rows.push(first_row(alloc, size)?)?;
+    for _ in 0..size {
+        grow(alloc, a, b, &mut rows)?;
+        let mut basis = dependences(alloc, a, b, &rows, size)?;
+        if !basis.is_empty() {
+            return Ok(basis.remove(0));
+        }
+    }
+    // not reached: one more row than they have items are dependent
+    Ok(Row::new(alloc))
+}

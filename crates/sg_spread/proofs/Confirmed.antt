@@ -1,5 +1,4 @@
 -- The candidates that are confirmed one after the other.
---   confirmed_none    before the first
 --   confirmed_next    after one more
 use Rattle.std.proofs.Common.{◌≡◌, ℕ, ◌+◌, ◌<◌, inl, inr, sym, subst, ◌∙◌, List, [], ◌∷◌, ◌++◌, length, take, get_or, ℤ, ◌<ℤ◌, AllPairs, Contains, arith}
 use Rattle.std.proofs.lemmas.List.{get_or-take, take_more, length-take-le, get_or_default}
@@ -8,16 +7,7 @@ use Rattle.std.proofs.lemmas.List.Quantifiers.{all_pairs_push}
 use Rattle.sg_algebra.proofs.Value.{Value}
 use Rattle.sg_spread.specs.Shifts.{Meets, AreShifts, IsConfirmed}
 
-nothing : (m : ℤ) → Contains [] m → ⊥
-nothing m h = let inside = h.1 in omega arith
-
 module _ {d : ℕ} (a b : List (Value d)) where
-  pub confirmed_none : AreShifts a b [] []
-  confirmed_none = record {
-    ascending = λ i j d lt within. absurd (omega arith);
-    kept = λ m. (λ h. absurd (nothing m h), λ h. absurd (nothing m h.0));
-  }
-
   module _ (front r : List ℤ) (m : ℤ) (before : (x : ℤ) → Contains front x → x <ℤ m) (f : AreShifts a b front r) where
     met : Meets a b m → AreShifts a b (front ++ m ∷ []) (r ++ m ∷ [])
     met meets = record {

@@ -1,13 +1,11 @@
 -- The rows of the powers.
 --   powers_more     one more row, which is made of the last one by a step
---   powers_first    the row of the power 0 alone
 --   null_some, null_is    the first dependence isn't 0, and is a certificate
 --   null_none       among more powers than they have items there is one
 use Rattle.std.proofs.Common.{◌≡◌, ℕ, zero, suc, ◌+◌, ◌*◌, ◌-◌, ◌<◌, ◌⊎◌, inl, inr, refl, sym, ◌∙◌, subst, List, [], ◌∷◌, ◌++◌, length, map, get_or, arith}
 use Rattle.sg_algebra.proofs.Lists.{length_map}
-use Rattle.sg_algebra.proofs.Value.{Value, one_value}
+use Rattle.sg_algebra.proofs.Value.{Value}
 use Rattle.sg_algebra.proofs.ValueField.{ValueR, value_one_ne}
-use Rattle.sg_algebra.proofs.Polynomial.{coefficient}
 use Rattle.sg_algebra.proofs.Rows.{Builds, past_row}
 use Rattle.sg_algebra.proofs.Linear.{table}
 use Rattle.sg_algebra.proofs.NullSpace.{axis_one}
@@ -16,7 +14,7 @@ use Rattle.sg_num.specs.Value.{number}
 use Rattle.sg_num.specs.declared.rat.Rat.{Rat}
 use Rattle.sg_theory.proofs.Step.{iterate}
 use Rattle.sg_theory.proofs.StepRow.{Stands, step_at}
-use Rattle.sg_theory.proofs.ValueRows.{step_built, start_built}
+use Rattle.sg_theory.proofs.ValueRows.{step_built}
 use Rattle.sg_theory.proofs.Certificate.{Certificate}
 use Rattle.sg_theory.proofs.PowerTable.{null_certificate, basis_some}
 use Rattle.sg_spread.specs.Powers.{ArePowers, IsNullBasis, IsSome}
@@ -56,13 +54,6 @@ module _ (d e : ℕ) (a b : List (Value 0)) where
         | inr k ↦ subst (λ r. Stands (ValueR 0) d e (map number r) (iterate (ValueR 0) d e a b t)) (sym (get_last rows next t k))
             (subst (λ n. Stands (ValueR 0) d e (map number next) (iterate (ValueR 0) d e a b n)) (sym k) own)
       ]
-
-  pub powers_first : (row : List Rat) (size : ℕ) (rows : List (List Rat)) → Builds number (coefficient (one_value ∷ [])) size row → size ≡ d * e → rows ≡ row ∷ [] → ArePowers d e a b rows
-  powers_first row size rows built s is = subst (ArePowers d e a b) (sym is) all
-    where
-      all : ArePowers d e a b (row ∷ [])
-      all zero l = start_built number d e row (subst (λ n. Builds number (coefficient (one_value ∷ [])) n row) s built)
-      all (suc t) l = absurd (omega arith)
 
   -- ---- The first dependence
 

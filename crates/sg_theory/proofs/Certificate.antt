@@ -3,14 +3,12 @@
 --   Certificate R d e a b D      this sum over all factors is zero in each entry
 --   certificate                  so each common divisor of a(k) and b(k + m) divides D(m)
 --   coprime_at                   and a(k) and b(k + m) are coprime, where D(m) isn't 0, over a field
---   applied R d e a b D          the array of D(j - k), from the last factor on: a step, and the factor times the start
---   applied-is, certificate_by_steps    these are the sums; so D is a certificate where the last array is zero
 use Rattle.std.proofs.Common.{ℕ, zero, suc, ◌≤◌, ◌<◌, refl, List, [], ◌∷◌, length, arith}
 use Rattle.sg_algebra.specs.Ring.{Ring, Field}
 use Rattle.sg_algebra.specs.Coefficients.{coef, eval}
 use Rattle.sg_algebra.proofs.Ring.{pow}
 use Rattle.sg_algebra.proofs.Solver.{by, scale, reads}
-use Rattle.sg_algebra.proofs.Sums.{sum, sum-first}
+use Rattle.sg_algebra.proofs.Sums.{sum}
 use Rattle.sg_algebra.proofs.Divides.{Divides, dvd_same, dvd_O, identity}
 use Rattle.sg_algebra.proofs.Coprime.{Coprime}
 use Rattle.sg_algebra.proofs.PolynomialRing.{PolyR, X, no_coefficient, one_coefficient, constant-mul}
@@ -19,11 +17,11 @@ use Rattle.sg_algebra.proofs.Division.{bezoutPoly}
 use Rattle.sg_algebra.proofs.Shift.{moved}
 use Rattle.sg_theory.proofs.Modulo.{Modulo, modulo_same, modulo_trans, modulo-add, modulo-scale, dvd_modulo}
 use Rattle.sg_theory.proofs.Terms.{first_terms, value-first_terms}
-use Rattle.sg_theory.proofs.Step.{start, step, iterate, step_cong, step-sum, array_value_cong, array_value-more, array_value-zero}
+use Rattle.sg_theory.proofs.Step.{iterate, array_value_cong, array_value-more, array_value-zero}
 use Rattle.sg_theory.proofs.Multiples.{array_at, Common, iterate_modulo}
 
 module _ (R : Ring) (d e : ℕ) (a b : List R.A) where
-  open R use {A, ◌≈◌, ◌⊞◌, ◌⊠◌, ⊟, O, I, rfl, symm, trans, add_cong}
+  open R use {A, ◌≈◌, ◌⊠◌, O}
 
   -- the first n factors times the start after 0, 1, .. steps, entry by entry
   abbrev pub weighted : List A → ℕ → ℕ → ℕ → A
@@ -31,22 +29,6 @@ module _ (R : Ring) (d e : ℕ) (a b : List R.A) where
 
   pub record Certificate (D : List A) : Type 0 where
     pub none : (l i : ℕ) → l < e → i < d → weighted D (length D) l i ≈ O
-
-  -- ---- From the last factor on
-
-  abbrev pub applied : List A → ℕ → ℕ → A
-  applied [] l i = O
-  applied (c ∷ D) l i = c ⊠ start R l i ⊞ step R d e a b (applied D) l i
-
-  pub applied-is : (D : List A) (l i : ℕ) → l < e → i < d → applied D l i ≈ weighted D (length D) l i
-  applied-is [] l i p q = rfl
-  applied-is (c ∷ D) l i p q =
-      trans (add_cong rfl (trans (step_cong R d e a b (applied D) (weighted D (length D)) (applied-is D) l i p q)
-      (step-sum R d e a b (coef R D) (iterate R d e a b) (length D) l i)))
-      (symm (sum-first R (λ t. coef R (c ∷ D) t ⊠ iterate R d e a b t l i) (length D)))
-
-  pub certificate_by_steps : (D : List A) → ((l i : ℕ) → l < e → i < d → applied D l i ≈ O) → Certificate D
-  certificate_by_steps D h = record { none = λ l i p q. trans (symm (applied-is D l i p q)) (h l i p q) }
 
 module _ (R : Ring) (d e : ℕ) (a b : List R.A) (m : R.A) (h : List R.A) (c : Common R d e a b m h) where
   open R use {A, ◌≈◌, ◌⊞◌, ◌⊠◌, ⊟, O, I}

@@ -3,9 +3,8 @@
 --   some_below                where there is a place, d and e aren't 0
 --   line_below, column_below  the line p / d and the column p % d of a place p are within the array
 --   place_is                  p is the place of its line and column
---   last_line                 the last line begins d places before the end
-use Rattle.std.proofs.Common.{◌≡◌, ℕ, zero, suc, ◌+◌, ◌*◌, ◌-◌, ◌/◌, ◌%◌, ◌<◌, ◌≤◌, arith}
-use Rattle.std.proofs.Math.Nat.{div-lt_iff_lt-mul, mul-suc}
+use Rattle.std.proofs.Common.{◌≡◌, ℕ, zero, suc, ◌+◌, ◌*◌, ◌/◌, ◌%◌, ◌<◌, ◌≤◌, arith}
+use Rattle.std.proofs.Math.Nat.{div-lt_iff_lt-mul}
 
 pub place_below : (l i d e : ℕ) → l < e → i < d → l * d + i < d * e
 place_below l i d zero p q = absurd (omega arith)
@@ -25,11 +24,3 @@ column_below p d e h = let l : 0 < d = (some_below p d e h).0 in omega arith
 
 pub place_is : (p d : ℕ) → p / d * d + p % d ≡ p
 place_is p d = omega arith
-
--- the last line begins d places before the end
-pub last_line : (d e : ℕ) → 0 < e → (e - 1) * d ≡ d * e - d
-last_line d zero h = absurd (omega arith)
-last_line d (suc e) h = rw (before e, mul-suc d e) (omega arith)
-  where
-    before : (e : ℕ) → suc e - 1 ≡ e
-    before e = omega arith

@@ -6,8 +6,7 @@
 --   Probed val p u       u has the values of the elements p
 --   specialised_elements the same of a field's elements, whose values are fractions of the program
 --   specialised_radicals the same where radicals of the values are coprime
---   specialised_probe    the same where one probe gave the values of the coefficients of a and b in a row
-use Rattle.std.proofs.Common.{◌≡◌, ℕ, refl, sym, ◌∙◌, subst, List, [], ◌∷◌, ◌++◌, map, take, drop, length, ℤ}
+use Rattle.std.proofs.Common.{◌≡◌, ℕ, refl, sym, ◌∙◌, subst, List, [], ◌∷◌, map, ℤ}
 use Rattle.sg_algebra.specs.Ring.{Ring}
 use Rattle.sg_algebra.specs.Coefficients.{coef}
 use Rattle.sg_algebra.proofs.Solver.{by, reads}
@@ -20,8 +19,7 @@ use Rattle.sg_algebra.proofs.ValueField.{ValueR, value_one_ne}
 use Rattle.sg_algebra.proofs.Rational.{whole_value}
 use Rattle.sg_algebra.proofs.Polynomial.{PolynomialR, poly, zero_polynomial, same_poly}
 use Rattle.sg_algebra.proofs.Place.{Pairwise, HasValue}
-use Rattle.sg_algebra.proofs.Places.{has_laws, pairwise-add, pairwise-neg, pairwise-mul, pairwise_left, pairwise_right}
-use Rattle.sg_num.specs.Probe.{IsProbe}
+use Rattle.sg_algebra.proofs.Places.{has_laws, pairwise-add, pairwise-neg, pairwise-mul}
 use Rattle.sg_num.specs.Value.{number}
 use Rattle.sg_num.specs.declared.rat.Rat.{Rat}
 use Rattle.sg_theory.proofs.Embedded.{Valued, embedded, has_one, has_whole, monic_values, pairwise_at, pairwise-embedded, pairwise-moved}
@@ -115,9 +113,3 @@ module _ (d : ℕ) (args : List ℤ) where
         (coprime_of_radicals 0 (whole_value 0 m) (map number a₀) (map number b₀) r s
         (monic_some n (map number a₀) (monic_values d args v n (map val a) (map number a₀) (probed a a₀ h) e))
         (monic_some l (map number b₀) (monic_values d args v l (map val b) (map number b₀) (probed b b₀ k) f)) p q c)
-
-    pub specialised_probe : (m : ℤ) (n : ℕ) (a b : List E) (values : List Rat) → IsProbe d val (a ++ b) args values → Monic (ValueR d) n (map val a)
-        → Coprime (PolynomialR 0) (poly (map number (take (length a) values))) (poly (moved (ValueR 0) (whole_value 0 m) (map number (drop (length a) values))))
-        → Coprime (PolynomialR d) (poly (map val a)) (poly (moved (ValueR d) (whole_value d m) (map val b)))
-    specialised_probe m n a b values p e c = specialised_elements m n a b (take (length a) values) (drop (length a) values)
-        (pairwise_left (λ x r. HasValue d (val x) args (number r)) a b values p.each) (pairwise_right (λ x r. HasValue d (val x) args (number r)) a b values p.each) e c

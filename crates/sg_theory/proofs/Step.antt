@@ -7,7 +7,7 @@
 --   array_value R d e w k j    the value of the polynomial of w
 --   monic_value R f n x        the value at x of the monic polynomial of degree n with the lower coefficients f
 --   Agree R d e w u            the arrays have equal entries
---   step_cong, step-more, step-zero, step-sum    the step of equal arrays, of w + c u, of zeros, of a sum of multiples of arrays
+--   step_cong                  the step of equal arrays
 --   array_value_cong, array_value-more, array_value-zero    the value of equal arrays, of w + c u, of zeros
 --   step-on                    a map of rings goes inside
 --   step-value                 the value after a step is (j - k) times the one before, and a multiple of a(k) and one of b(j)
@@ -17,9 +17,8 @@ use Rattle.sg_algebra.specs.Ring.{Ring, Hom}
 use Rattle.sg_algebra.specs.Coefficients.{coef}
 use Rattle.sg_algebra.proofs.Ring.{pow}
 use Rattle.sg_algebra.proofs.Solver.{ring, by, scale, reads}
-use Rattle.sg_algebra.proofs.Sums.{sum}
 use Rattle.sg_algebra.proofs.Divides.{on-O, on-neg}
-use Rattle.sg_theory.proofs.Terms.{earlier, earlier_cong, earlier-more, earlier-zero, first_terms, first_terms_cong, first_terms-zero, first_terms-more, first_terms-combined, first_terms-earlier, first_terms-unit}
+use Rattle.sg_theory.proofs.Terms.{earlier, earlier_cong, first_terms, first_terms_cong, first_terms-zero, first_terms-more, first_terms-combined, first_terms-earlier, first_terms-unit}
 
 module _ (R : Ring) where
   open R use {A, ◌≈◌, ◌⊞◌, ◌⊠◌, ⊟, O, I, rfl, symm, trans, add_cong, mul_cong, neg_cong}
@@ -48,7 +47,7 @@ module _ (R : Ring) where
   abbrev pub monic_value : (ℕ → A) → ℕ → A → A
   monic_value f n x = first_terms R f n x ⊞ pow R x n
 
-  -- ---- Equal arrays, and sums of arrays: the step is linear
+  -- ---- Equal arrays, and sums of arrays
 
   -- equal within the e lines of d entries
   abbrev pub Agree : (d e : ℕ) → (ℕ → ℕ → A) → (ℕ → ℕ → A) → Type 0
@@ -59,26 +58,6 @@ module _ (R : Ring) where
       add_cong (add_cong (add_cong (earlier_cong R (λ n. w n i) (λ n. u n i) l e (omega arith) (λ n s. h n i s q))
       (neg_cong (mul_cong rfl (earlier_cong R (λ n. w n i) (λ n. u n i) e e (omega arith) (λ n s. h n i s q)))))
       (neg_cong (earlier_cong R (w l) (u l) i d (omega arith) (λ n s. h l n p s)))) (mul_cong rfl (earlier_cong R (w l) (u l) d d (omega arith) (λ n s. h l n p s)))
-
-  pub step-more : (d e : ℕ) (a b : List A) (w u : ℕ → ℕ → A) (c : A) (l i : ℕ) → step d e a b (λ l i. w l i ⊞ c ⊠ u l i) l i ≈ step d e a b w l i ⊞ c ⊠ step d e a b u l i
-  step-more d e a b w u c l i =
-      trans (add_cong (add_cong (add_cong (earlier-more R (λ n. w n i) (λ n. u n i) c l) (neg_cong (mul_cong rfl (earlier-more R (λ n. w n i) (λ n. u n i) c e))))
-      (neg_cong (earlier-more R (w l) (u l) c i))) (mul_cong rfl (earlier-more R (w l) (u l) c d)))
-      (joined (earlier R (λ n. w n i) l) (earlier R (λ n. u n i) l) (earlier R (λ n. w n i) e) (earlier R (λ n. u n i) e) (earlier R (w l) i) (earlier R (u l) i) (earlier R (w l) d) (earlier R (u l) d) (coef R a i) (coef R b l))
-    where
-      joined : (x x' y y' z z' q q' f g : A)
-          → (x ⊞ c ⊠ x') ⊞ ⊟ (g ⊠ (y ⊞ c ⊠ y')) ⊞ ⊟ (z ⊞ c ⊠ z') ⊞ f ⊠ (q ⊞ c ⊠ q') ≈ (x ⊞ ⊟ (g ⊠ y) ⊞ ⊟ z ⊞ f ⊠ q) ⊞ c ⊠ (x' ⊞ ⊟ (g ⊠ y') ⊞ ⊟ z' ⊞ f ⊠ q')
-      joined x x' y y' z z' q q' f g = ring R (x ∷ x' ∷ y ∷ y' ∷ z ∷ z' ∷ q ∷ q' ∷ f ∷ g ∷ c ∷ []) (search reads depth 24 fits 8000) refl
-
-  pub step-zero : (d e : ℕ) (a b : List A) (l i : ℕ) → step d e a b (λ l i. O) l i ≈ O
-  step-zero d e a b l i =
-      trans (add_cong (add_cong (add_cong (earlier-zero R l) (neg_cong (mul_cong rfl (earlier-zero R e)))) (neg_cong (earlier-zero R i))) (mul_cong rfl (earlier-zero R d)))
-      (ring R (coef R a i ∷ coef R b l ∷ []) (search reads depth 16) refl)
-
-  pub step-sum : (d e : ℕ) (a b : List A) (c : ℕ → A) (w : ℕ → ℕ → ℕ → A) (n l i : ℕ)
-      → step d e a b (λ l i. sum R (λ t. c t ⊠ w t l i) n) l i ≈ sum R (λ t. c t ⊠ step d e a b (w t) l i) n
-  step-sum d e a b c w zero l i = step-zero d e a b l i
-  step-sum d e a b c w (suc n) l i = trans (step-more d e a b (λ l i. sum R (λ t. c t ⊠ w t l i) n) (w n) (c n) l i) (add_cong (step-sum d e a b c w n l i) rfl)
 
   pub array_value-more : (d e : ℕ) (w u : ℕ → ℕ → A) (c k j : A) → array_value d e (λ l i. w l i ⊞ c ⊠ u l i) k j ≈ array_value d e w k j ⊞ c ⊠ array_value d e u k j
   array_value-more d e w u c k j =

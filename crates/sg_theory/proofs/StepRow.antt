@@ -5,24 +5,17 @@
 --   step_at_by                  it is  up - b_l low - left + a_i last,  for the items that `Parts` says
 --   Parts R d e row p up low left last    `up` is the item d places before p, or 0 in the first line; `left` is the item before p, or 0 at the start of a line;
 --                               `low` stands in the last line in the column of p, and `last` ends the line of p
---   start_stands                a row whose items are 1, 0, .., 0 is the start
 --   step_stands                 a row whose items are `step_at` of a row before it is the array after a step
---   empty_stands                a row of zeros is what `applied` gives for the empty list
---   applied_stands              a row whose items are `step_at` of the row for D, with c added to the first, is what `applied` gives for c and then D
---   added_stands                the same from the row after the step
---   stands_certificate          a list is a certificate where the row of its `applied` is zero
-use Rattle.std.proofs.Common.{◌≡◌, ℕ, zero, suc, ◌+◌, ◌*◌, ◌-◌, ◌/◌, ◌%◌, ◌≤◌, ◌<◌, refl, sym, List, [], ◌∷◌, length, arith}
+use Rattle.std.proofs.Common.{◌≡◌, ℕ, zero, suc, ◌+◌, ◌*◌, ◌-◌, ◌/◌, ◌%◌, ◌≤◌, ◌<◌, refl, sym, List, length, arith}
 use Rattle.std.proofs.lemmas.Nat.{div-mul-add, mod-mul-add}
 use Rattle.sg_algebra.specs.Ring.{Ring}
 use Rattle.sg_algebra.specs.Coefficients.{coef}
-use Rattle.sg_algebra.proofs.Ring.{I_mul, mul_O}
 use Rattle.sg_theory.proofs.Terms.{earlier}
-use Rattle.sg_theory.proofs.Step.{start, step, step_cong}
-use Rattle.sg_theory.proofs.Certificate.{Certificate, applied, certificate_by_steps}
+use Rattle.sg_theory.proofs.Step.{step, step_cong}
 use Rattle.sg_theory.proofs.RowPlaces.{place_below, some_below, column_below, place_is}
 
 module _ (R : Ring) (d e : ℕ) where
-  open R use {A, ◌≈◌, ◌⊞◌, ◌⊠◌, ⊟, O, I, rfl, symm, trans, add_cong, mul_cong, neg_cong, mul_I}
+  open R use {A, ◌≈◌, ◌⊞◌, ◌⊠◌, ⊟, O, rfl, symm, trans, add_cong, mul_cong, neg_cong}
 
   abbrev pub entries : List A → ℕ → ℕ → A
   entries row l i = coef R row (l * d + i)
@@ -82,45 +75,8 @@ module _ (R : Ring) (d e : ℕ) where
     entry = λ l i p q. rw (div-mul-add l d i q, mod-mul-add l d i q) at (h (l * d + i) (place_below l i d e p q));
   }
 
-  -- c times the start, place by place: c at the first place and 0 at the others
-  start_at : (c : A) (l i p : ℕ) → p ≡ l * d + i → i < d → c ⊠ start R l i ≈ coef R (c ∷ []) p
-  start_at c zero zero zero e q = mul_I
-  start_at c zero zero (suc p) e q = absurd (omega arith)
-  start_at c zero (suc i) zero e q = absurd (omega arith)
-  start_at c zero (suc i) (suc p) e q = mul_O R
-  start_at c (suc l) i zero e q = absurd (omega arith)
-  start_at c (suc l) i (suc p) e q = mul_O R
-
-  pub start_stands : (row : List A) → length row ≡ d * e → ((p : ℕ) → p < d * e → coef R row p ≈ coef R (I ∷ []) p) → Stands row (start R)
-  start_stands row s h = stands_by row (start R) s (λ p k. trans (h p k) (trans (symm (start_at I (p / d) (p % d) p (sym (place_is p d)) (column_below p d e k))) (I_mul R)))
-
   pub step_stands : (a b row new : List A) (w : ℕ → ℕ → A) → Stands row w → length new ≡ d * e → ((p : ℕ) → p < d * e → coef R new p ≈ step_at a b row p)
       → Stands new (step R d e a b w)
   step_stands a b row new w s size h =
       let n = stands_by new (step R d e a b (entries row)) size h in
       record { size = size; entry = λ l i p q. trans (n.entry l i p q) (step_cong R d e a b (entries row) w s.entry l i p q) }
-
-  -- ---- A list of factors, from the last one on
-
-  pub empty_stands : (a b row : List A) → length row ≡ d * e → ((p : ℕ) → p < d * e → coef R row p ≈ O) → Stands row (applied R d e a b [])
-  empty_stands a b row s h = stands_by row (applied R d e a b []) s h
-
-  -- a factor is added to the first entry
-  first_added : (new : List A) (c : A) (w : ℕ → ℕ → A) → length new ≡ d * e → ((p : ℕ) → p < d * e → coef R new p ≈ coef R (c ∷ []) p ⊞ w (p / d) (p % d)) → Stands new (λ l i. c ⊠ start R l i ⊞ w l i)
-  first_added new c w s h =
-      stands_by new (λ l i. c ⊠ start R l i ⊞ w l i) s (λ p k. trans (h p k) (add_cong (symm (start_at c (p / d) (p % d) p (sym (place_is p d)) (column_below p d e k))) rfl))
-
-  pub applied_stands : (a b row new : List A) (c : A) (D : List A) → Stands row (applied R d e a b D) → length new ≡ d * e
-      → ((p : ℕ) → p < d * e → coef R new p ≈ coef R (c ∷ []) p ⊞ step_at a b row p) → Stands new (applied R d e a b (c ∷ D))
-  applied_stands a b row new c D s size h =
-      let n = first_added new c (step R d e a b (entries row)) size h in
-      record { size = size; entry = λ l i p q. trans (n.entry l i p q) (add_cong rfl (step_cong R d e a b (entries row) (applied R d e a b D) s.entry l i p q)) }
-
-  pub added_stands : (a b row new : List A) (c : A) (D : List A) → Stands row (step R d e a b (applied R d e a b D)) → length new ≡ d * e
-      → ((p : ℕ) → p < d * e → coef R new p ≈ coef R (c ∷ []) p ⊞ coef R row p) → Stands new (applied R d e a b (c ∷ D))
-  added_stands a b row new c D s size h =
-      let n = first_added new c (entries row) size (λ p k. trans (h p k) (add_cong rfl (rw (place_is p d) rfl))) in
-      record { size = size; entry = λ l i p q. trans (n.entry l i p q) (add_cong rfl (s.entry l i p q)) }
-
-  pub stands_certificate : (a b row D : List A) → Stands row (applied R d e a b D) → ((p : ℕ) → p < d * e → coef R row p ≈ O) → Certificate R d e a b D
-  stands_certificate a b row D s z = certificate_by_steps R d e a b D (λ l i p q. trans (symm (s.entry l i p q)) (z (l * d + i) (place_below l i d e p q)))

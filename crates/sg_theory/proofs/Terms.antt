@@ -1,7 +1,7 @@
 -- The first terms of a power series: values of polynomials whose coefficients are given by a function.
 --   earlier R f i               the entry before the one at i; before the first one stands 0
 --   first_terms R f n x         f 0 + f 1 x + .. + f (n - 1) x^(n - 1)
---   earlier_cong, earlier-more, earlier-zero    of equal entries; of f + c g; of zeros
+--   earlier_cong                of equal entries
 --   first_terms_cong, first_terms-zero    of equal entries; of zeros
 --   first_terms-more, first_terms-combined    of f + c g; of f + p g + q h + r u
 --   first_terms-earlier         where each entry goes one place up: x times the sum, but for the last entry
@@ -30,14 +30,6 @@ module _ (R : Ring) where
   pub earlier_cong : (f g : ℕ → A) (i n : ℕ) → i ≤ n → ((m : ℕ) → m < n → f m ≈ g m) → earlier f i ≈ earlier g i
   earlier_cong f g zero n l h = rfl
   earlier_cong f g (suc i) n l h = h i (omega arith)
-
-  pub earlier-more : (f g : ℕ → A) (c : A) (i : ℕ) → earlier (λ n. f n ⊞ c ⊠ g n) i ≈ earlier f i ⊞ c ⊠ earlier g i
-  earlier-more f g c zero = ring R (c ∷ []) (search reads depth 12) refl
-  earlier-more f g c (suc i) = rfl
-
-  pub earlier-zero : (i : ℕ) → earlier (λ n. O) i ≈ O
-  earlier-zero zero = rfl
-  earlier-zero (suc i) = rfl
 
   pub first_terms_cong : (f g : ℕ → A) (n : ℕ) (x : A) → ((i : ℕ) → i < n → f i ≈ g i) → first_terms f n x ≈ first_terms g n x
   first_terms_cong f g n x h = sum_cong R (λ i. f i ⊠ pow R x i) (λ i. g i ⊠ pow R x i) n (λ i l. mul_cong (h i l) rfl)

@@ -78,8 +78,8 @@ fn dependences(
 }
 
 /// The coefficients, not all 0, of a polynomial that is 0 at each shift m at which a(k) and b(k+m) have a common divisor of
-/// positive degree. `a` and `b` are the coefficients of monic polynomials of positive degree. It is the one of least degree
-/// that comes of a linear dependence of the powers of j - k, where j is a root of b and k one of a.
+/// positive degree. `a` and `b` are the coefficients of monic polynomials of positive degree. It comes of the first linear
+/// dependence of the powers of j - k, where k is a root of a and j one of b.
 pub(crate) fn certificate(alloc: Global, a: &[Rat], b: &[Rat]) -> Result<Row<Rat>, Stop>
     requires some { 1 < length a.now }
     requires others { 1 < length b.now }

@@ -1,14 +1,11 @@
 //! A polynomial that is 0 at each shift at which two monic polynomials have a common divisor.
-ghost use Rattle.std.specs.Prelude.{◌≡◌, ℕ, ◌+◌, ◌*◌, ◌-◌, ◌<◌, ◌≤◌, [], length, map, get_or, OnOk, IfOk, IfErr};
-ghost use Rattle.sg_algebra.proofs.Value.{Value, zero_value};
+ghost use Rattle.std.specs.Prelude.{◌≡◌, ℕ, ◌+◌, ◌*◌, ◌-◌, ◌<◌, [], length, map, get_or, OnOk, IfOk, IfErr};
 ghost use Rattle.sg_algebra.proofs.ValueField.{ValueR};
-ghost use Rattle.sg_algebra.proofs.Linear.{row_times, Span, table as vectors, Form};
 ghost use Rattle.sg_algebra.proofs.Polynomial.{coefficient};
 ghost use Rattle.sg_algebra.proofs.Rows.{Builds};
 ghost use Rattle.sg_num.specs.Stopped.{KeepsWideStep};
 ghost use Rattle.sg_num.specs.Value.{number};
 ghost use Rattle.sg_theory.proofs.Certificate.{Certificate};
-ghost use Rattle.sg_theory.proofs.PowerTable.{PowerTable};
 ghost use Rattle.sg_spread.specs.Powers.{ArePowers, IsNullBasis, IsSome};
 
 use crate::step::{first_row, row_after};

@@ -1,14 +1,12 @@
 ghost use Rattle.std.specs.Prelude.{◌≡◌, ◌+◌, ◌-◌, ◌<◌, ◌++◌, ◌↔◌, ℤ, ◌<ℤ◌, AllPairs, Contains, length, map, take, drop, OnOk, IfOk, IfErr, IsTrue};
-ghost use Rattle.sg_algebra.specs.Coefficients.{eval};
 ghost use Rattle.sg_algebra.proofs.Coprime.{Coprime};
 ghost use Rattle.sg_algebra.proofs.Degree.{Monic};
-ghost use Rattle.sg_algebra.proofs.Polynomial.{PolynomialR, poly, zero_polynomial, EndsNonzero};
+ghost use Rattle.sg_algebra.proofs.Polynomial.{PolynomialR, poly, zero_polynomial};
 ghost use Rattle.sg_algebra.proofs.Rational.{whole_value};
 ghost use Rattle.sg_algebra.proofs.Shift.{moved};
 ghost use Rattle.sg_algebra.proofs.ValueField.{ValueR};
 ghost use Rattle.sg_num.specs.Stopped.{KeepsWideStep};
 ghost use Rattle.sg_num.specs.Value.{number};
-ghost use Rattle.sg_poly.specs.Divisors.{IsMonic};
 ghost use Rattle.sg_spread.specs.Roots.{IsRoot};
 ghost use Rattle.sg_spread.specs.Shifts.{Meets, AreShifts, IsConfirmed};
 

@@ -13,7 +13,7 @@ use sg_num::{Field, Rat, Row, Stop};
 use std::alloc::{AllocError, Global};
 
 // What a step puts at a place: up - b low - left + a last.
-fn moved(
+fn combined(
     alloc: Global,
     up: Rat,
     b: Rat,
@@ -82,7 +82,7 @@ fn item_after(alloc: Global, a: &[Rat], b: &[Rat], row: &[Rat], p: usize) -> Res
     let left = item_left(row, p, column);
     let low = item(row, row.len() - d + column);
     let last = item(row, line * d + (d - 1));
-    let r = moved(alloc, up, item(b, line), low, left, item(a, column), last)?;
+    let r = combined(alloc, up, item(b, line), low, left, item(a, column), last)?;
     Ok(r)
 }
 

@@ -8,8 +8,8 @@ use sg_num::{Row, Stop};
 use std::alloc::{AllocError, Global};
 
 impl Expr {
-    /// The distinct sums from left to right, each after those of its body, and of equal ones the first. The error is want
-    /// of memory.
+    /// The distinct sums from left to right, each after those of its body, and of equal ones the first. It fails only
+    /// when out of memory.
     pub fn sums_of(&self, alloc: Global) -> Result<Row<Expr>, Stop>
         ensures list { IfOk result (λ list. map tree_of list ≡ sums (tree_of self.now ∷ [])) }
         ensures memory { IfErr result (λ e. e ≡ Stop.Memory alloc_error) }
@@ -18,7 +18,7 @@ impl Expr {
         Ok(list)
     }
 
-    /// The distinct products, in the same order. The error is want of memory.
+    /// The distinct products, in the same order. It fails only when out of memory.
     pub fn prods_of(&self, alloc: Global) -> Result<Row<Expr>, Stop>
         ensures list { IfOk result (λ list. map tree_of list ≡ prods (tree_of self.now ∷ [])) }
         ensures memory { IfErr result (λ e. e ≡ Stop.Memory alloc_error) }
@@ -27,7 +27,7 @@ impl Expr {
         Ok(list)
     }
 
-    /// The known list, and after it the distinct sums that do not stand in it. The error is want of memory.
+    /// The known list, and after it the distinct sums that don't stand in it. It fails only when out of memory.
     #[tactic(auto, using(crate::proofs::Joining::joined_append))]
     pub fn join_sums(&self, alloc: Global, known: Row<Expr>) -> Result<Row<Expr>, AllocError>
         ensures { IfOk result (λ list. map tree_of list ≡ joined (map tree_of known) (all_sums (tree_of self.now))) }
@@ -36,26 +36,18 @@ impl Expr {
             Expr::Num(_) | Expr::Here | Expr::Param => Ok(known),
             Expr::Add(a, b) | Expr::Mul(a, b) | Expr::Div(a, b) => {
                 let known = a.join_sums(alloc, known)?;
-                let list = b.join_sums(alloc, known)?;
-                Ok(list)
+                b.join_sums(alloc, known)
             }
-            Expr::Neg(a) | Expr::Pow(a, _) => {
-                let list = a.join_sums(alloc, known)?;
-                Ok(list)
-            }
+            Expr::Neg(a) | Expr::Pow(a, _) => a.join_sums(alloc, known),
             Expr::Sum { from: _, body } => {
                 let known = body.join_sums(alloc, known)?;
-                let list = self.join(alloc, known)?;
-                Ok(list)
+                self.join(alloc, known)
             }
-            Expr::Prod { from: _, body } => {
-                let list = body.join_sums(alloc, known)?;
-                Ok(list)
-            }
+            Expr::Prod { from: _, body } => body.join_sums(alloc, known),
         }
     }
 
-    /// The known list, and after it the distinct products that do not stand in it. The error is want of memory.
+    /// The known list, and after it the distinct products that don't stand in it. It fails only when out of memory.
     #[tactic(auto, using(crate::proofs::Joining::joined_append))]
     pub fn join_prods(&self, alloc: Global, known: Row<Expr>) -> Result<Row<Expr>, AllocError>
         ensures { IfOk result (λ list. map tree_of list ≡ joined (map tree_of known) (all_prods (tree_of self.now))) }
@@ -64,26 +56,18 @@ impl Expr {
             Expr::Num(_) | Expr::Here | Expr::Param => Ok(known),
             Expr::Add(a, b) | Expr::Mul(a, b) | Expr::Div(a, b) => {
                 let known = a.join_prods(alloc, known)?;
-                let list = b.join_prods(alloc, known)?;
-                Ok(list)
+                b.join_prods(alloc, known)
             }
-            Expr::Neg(a) | Expr::Pow(a, _) => {
-                let list = a.join_prods(alloc, known)?;
-                Ok(list)
-            }
-            Expr::Sum { from: _, body } => {
-                let list = body.join_prods(alloc, known)?;
-                Ok(list)
-            }
+            Expr::Neg(a) | Expr::Pow(a, _) => a.join_prods(alloc, known),
+            Expr::Sum { from: _, body } => body.join_prods(alloc, known),
             Expr::Prod { from: _, body } => {
                 let known = body.join_prods(alloc, known)?;
-                let list = self.join(alloc, known)?;
-                Ok(list)
+                self.join(alloc, known)
             }
         }
     }
 
-    /// The known list, and this expression after it where it does not stand in it.
+    /// The known list, and this expression after it where it doesn't stand in it.
     fn join(&self, alloc: Global, known: Row<Expr>) -> Result<Row<Expr>, AllocError>
         ensures { IfOk result (λ list. map tree_of list ≡ joined (map tree_of known) (tree_of self.now ∷ [])) }
     {

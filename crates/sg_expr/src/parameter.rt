@@ -8,7 +8,7 @@ use std::alloc::{AllocError, Global};
 
 impl Expr {
     /// The tree with each parameter n replaced by n + `i`, so that its value at n is that of the tree at n + `i`. For 0 it
-    /// is an equal tree. The error is want of memory.
+    /// is an equal tree. It fails only when out of memory.
     pub fn substitute(&self, alloc: Global, i: u32) -> Result<Expr, AllocError>
         ensures tree { IfOk result (λ e. tree_of e ≡ substituted i (tree_of self.now)) }
         ensures value { IfOk result (λ e. (n k : ℤ) → val (tree_of e) n k ≡ val (tree_of self.now) (n +ℤ pos i) k) }
@@ -23,10 +23,7 @@ impl Expr {
         match self {
             Expr::Num(n) => Ok(Expr::Num(*n)),
             Expr::Here => Ok(Expr::Here),
-            Expr::Param => {
-                let e = parameter_plus(alloc, i)?;
-                Ok(e)
-            }
+            Expr::Param => parameter_plus(alloc, i),
             Expr::Add(a, b) => {
                 let left = Box::new(alloc, a.replaced(alloc, i)?)?;
                 let right = Box::new(alloc, b.replaced(alloc, i)?)?;

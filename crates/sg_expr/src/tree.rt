@@ -46,7 +46,7 @@ impl Expr {
         }
     }
 
-    /// An equal tree. The error is want of memory.
+    /// An equal tree. It fails only when out of memory.
     pub fn copy(&self, alloc: Global) -> Result<Expr, AllocError>
         ensures { IfOk result (λ e. tree_of e ≡ tree_of self.now) }
     {

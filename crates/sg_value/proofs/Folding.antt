@@ -12,8 +12,7 @@ use Rattle.sg_value.specs.declared.step.Outcome.TheVariants.{Value, NoValue, Too
 use Rattle.sg_spec.specs.Fraction.{Fraction, Same, whole, times}
 use Rattle.sg_spec.specs.Tree.{Tree}
 use Rattle.sg_spec.specs.Value.{val, both, folded, power_of, product_of}
-use Rattle.sg_spec.specs.Steps.{Operation, multiplication, Step, AllFit, IsFirstMisfit, result_of, made, steps, steps_of_two, folded_steps, power_steps}
-use Rattle.sg_num.specs.declared.step.Wide.{Wide}
+use Rattle.sg_spec.specs.Steps.{Operation, multiplication, Step, AllFit, result_of, made, steps, steps_of_two, folded_steps, power_steps}
 use Rattle.sg_num.specs.declared.rat.Rat.{Rat}
 use Rattle.sg_num.specs.Value.{fraction}
 use Rattle.sg_value.specs.Answer.{step_of, Stands, Answers}

@@ -3,3 +3,5 @@ pub mod Fitting
 pub mod Operating
 pub mod Joining
 pub mod Folding
+pub mod LeftParts
+pub mod Climbing

@@ -1,6 +1,7 @@
 //! The value of an expression for a parameter and a variable, by the steps of its definition, without memory.
 #![tactic(auto)]
 
+mod left;
 mod step;
 mod terms;
 mod value;

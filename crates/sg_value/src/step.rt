@@ -8,12 +8,32 @@ ghost use Rattle.sg_value.specs.Answer.{Answers, Stands, operation_of};
 
 use sg_num::{Op, Rat, Wide};
 
-/// What an evaluation comes to: a value, no value, or the first step that does not fit.
+/// What an evaluation comes to: a value, no value, or the first step that doesn't fit.
 #[derive(Clone, Copy)]
 pub enum Outcome {
     Value(Rat),
     NoValue,
     TooWide(Wide),
+}
+
+/// The step that joins two values.
+pub fn operate(op: Op, left: Rat, right: Rat) -> Outcome
+    ensures { (x y : Fraction) → Stands left (Some x) → Stands right (Some y) → Answers result (result_of (operation_of op) x y) (made (operation_of op) (Some x) (Some y)) }
+{
+    if divides_by_zero(op, right) {
+        return Outcome::NoValue;
+    }
+    match stepped(op, left, right) {
+        Ok(r) => Outcome::Value(r),
+        Err(wide) => Outcome::TooWide(wide),
+    }
+}
+
+/// Whether the step is a division by 0.
+fn divides_by_zero(op: Op, right: Rat) -> bool
+    ensures { IsTrue result ↔ ((op ≡ Op.Div) × ((fraction right).num ≡ pos 0)) }
+{
+    op == Op::Div && right.is_zero()
 }
 
 /// The result of one step, for a divisor other than 0.
@@ -28,26 +48,6 @@ fn stepped(op: Op, left: Rat, right: Rat) -> Result<Rat, Wide>
         Op::Sub => left.minus(right),
         Op::Mul => left.times(right),
         Op::Div => left.over(right),
-    }
-}
-
-/// Whether the step is a division by 0.
-fn divides_by_zero(op: Op, right: Rat) -> bool
-    ensures { IsTrue result ↔ ((op ≡ Op.Div) × ((fraction right).num ≡ pos 0)) }
-{
-    op == Op::Div && right.is_zero()
-}
-
-/// The step that joins two values.
-pub fn operate(op: Op, left: Rat, right: Rat) -> Outcome
-    ensures { (x y : Fraction) → Stands left (Some x) → Stands right (Some y) → Answers result (result_of (operation_of op) x y) (made (operation_of op) (Some x) (Some y)) }
-{
-    if divides_by_zero(op, right) {
-        return Outcome::NoValue;
-    }
-    match stepped(op, left, right) {
-        Ok(r) => Outcome::Value(r),
-        Err(wide) => Outcome::TooWide(wide),
     }
 }
 

@@ -15,7 +15,7 @@ pub fn count(from: i64, last: i64) -> u128
     u128::from(last.abs_diff(from)) + 1
 }
 
-/// The whole number that comes `i` places after the first.
+/// The whole number that comes `i` places after the first. The last one only bounds the place, so that the number fits.
 pub fn place(from: i64, last: i64, i: u128) -> i64
     requires { i < how_many from last }
     ensures { result ≡ from +ℤ pos i }

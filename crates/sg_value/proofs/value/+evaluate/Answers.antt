@@ -1,4 +1,4 @@
-use Rattle.std.proofs.Common.{◌≡◌, ◌≤◌, ◌+◌, ℕ, suc, refl, subst, arith, rules, w64, SFits, ℤ, to_z, of_z, ◌∙◌}
+use Rattle.std.proofs.Common.{◌≡◌, ◌≤◌, ◌+◌, ◌/◌, ℕ, suc, refl, subst, arith, rules, w64, SFits, ℤ, to_z, of_z, ◌∙◌}
 use Rattle.std.proofs.lemmas.Int.{to_z-of_z}
 use Rattle.sg_spec.specs.Fraction.{Fraction}
 use Rattle.sg_spec.specs.Value.{val, folded, how_many}
@@ -7,8 +7,10 @@ use Rattle.sg_spec.specs.Tree.{Tree}
 use Rattle.sg_expr.specs.Tree.{tree_of}
 use Rattle.sg_num.specs.Value.{fraction}
 use Rattle.sg_value.specs.declared.step.Outcome.{Outcome}
-use Rattle.sg_value.specs.declared.step.Outcome.TheVariants.{Value, NoValue, TooWide}
+use Rattle.sg_value.specs.declared.step.Outcome.TheVariants.{Value}
 use Rattle.sg_value.specs.Answer.{Answers, operation_of}
+use Rattle.sg_value.proofs.LeftParts.{middle, part-within}
+use Rattle.sg_value.proofs.Climbing.{two-climbs}
 use Rattle.sg_value.proofs.Folding.{fold-next, fold-given, folded-ends}
 use Rattle.sg_value.proofs.value.+evaluate.Goals as goal
 
@@ -58,16 +60,38 @@ fold-returns t c =
     fold-given (operation_of c.args.op) (fraction c.args.start) (tree_of c.args.body.now) c.args.n (given c.args.n) c.args.from (given c.args.from) c.loop-i.i (how_many c.args.from c.args.last)
     (Value c.loop-i.so_far) (to_z-of_z w64 c.args.n c.ranges.n) (to_z-of_z w64 c.args.from c.ranges.from) all c.loop-i.invariant
 
-pub evaluate-returns-in-Sum : goal.evaluate-returns-in-Sum
-evaluate-returns-in-Sum t c =
+pub evaluate_part-returns-in-Sum : goal.evaluate_part-returns-in-Sum
+evaluate_part-returns-in-Sum t c =
     let fits_n : SFits w64 c.args.n = c.ranges.n in
     let fits_k : SFits w64 c.args.k = c.ranges.k in
     let fits_from : SFits w64 c.in-Sum.from = search rules in
     rw c.in-Sum.is (simp to_z-of_z at (rw (c.whole-in-Sum.ensures, c.deref-in-Sum.ensures) at c.fold.ensures))
 
-pub evaluate-returns-in-Prod : goal.evaluate-returns-in-Prod
-evaluate-returns-in-Prod t c =
+pub evaluate_part-returns-in-Prod : goal.evaluate_part-returns-in-Prod
+evaluate_part-returns-in-Prod t c =
     let fits_n : SFits w64 c.args.n = c.ranges.n in
     let fits_k : SFits w64 c.args.k = c.ranges.k in
     let fits_from : SFits w64 c.in-Prod.from = search rules in
     rw c.in-Prod.is (simp to_z-of_z at (rw (c.whole-in-Prod.ensures, c.deref-in-Prod.ensures) at c.fold-in-Prod.ensures))
+
+pub climb-climb-middle-requires : goal.climb-climb-middle-requires
+climb-climb-middle-requires t c =
+    let mid = middle (tree_of c.args.e.now) (tree_of c.left_part.result.now) (c.args.count / 2) c.args.count c.requires (omega arith) (omega arith) c.left_part.ensures in
+    (omega (arith, c.decreases, mid.lower), mid.room)
+
+pub climb-climb-requires : goal.climb-climb-requires
+climb-climb-requires t c =
+    let mid = middle (tree_of c.args.e.now) (tree_of c.left_part.result.now) (c.args.count / 2) c.args.count c.requires (omega arith) (omega arith) c.left_part.ensures in
+    let most = c.requires in
+    (omega (arith, c.decreases, mid.upper), omega arith)
+
+pub climb-returns : goal.climb-returns
+climb-returns t c =
+    let mid = middle (tree_of c.args.e.now) (tree_of c.left_part.result.now) (c.args.count / 2) c.args.count c.requires (omega arith) (omega arith) c.left_part.ensures in
+    two-climbs (tree_of c.args.e.now) (tree_of c.left_part.result.now) (c.args.count / 2) c.args.count c.args.below c.climb-middle.result c.climb.result c.args.n (given c.args.n) c.args.k (given c.args.k)
+    mid c.left_part.ensures (to_z-of_z w64 c.args.n c.ranges.n) (to_z-of_z w64 c.args.k c.ranges.k) c.climb-middle.ensures c.climb.ensures
+
+pub evaluate-evaluate_part-lowest-requires : goal.evaluate-evaluate_part-lowest-requires
+evaluate-evaluate_part-lowest-requires t c =
+    let within = part-within (tree_of c.args.e.now) (tree_of c.left_part.result.now) c.left_depth-depth.result c.left_depth-depth.ensures c.left_part.ensures in
+    (omega (arith, c.decreases, within), tt)

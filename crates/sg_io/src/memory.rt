@@ -39,7 +39,7 @@ impl Model for MemSink {
 
 impl MemSink {
     /// A sink that holds nothing. It takes at most `step` bytes a call and at most `room` bytes in all, and fails at the
-    /// listed calls, counted from 1. It takes its memory first: the error is want of memory, which no later call meets.
+    /// listed calls, counted from 1. It takes its memory first, and fails only when out of memory; no later call takes any.
     pub fn new(alloc: Global, room: u32, step: u32, fails: Row<u32>) -> Result<MemSink, Stop>
         requires { 0 < step }
         ensures empty { IfOk result (λ s. s ≡ record { held = []; room = room; step = step; fails = fails; calls = 0; faults = 0 }) }

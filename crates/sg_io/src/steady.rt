@@ -61,7 +61,7 @@ impl Source for SteadySource {
 pub struct SteadySink;
 
 impl SteadySink {
-    /// The one such sink.
+    /// Such a sink.
     pub fn new() -> SteadySink {
         SteadySink
     }

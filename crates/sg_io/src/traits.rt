@@ -1,7 +1,7 @@
 ghost use Rattle.std.specs.Prelude.{◌≡◌, ℕ, ◌≤◌, ◌<◌, List, Option, length, take, IfOk, OnErr};
 ghost use Rattle.sg_io.specs.Bytes.{Gives, Appends, Rose};
 
-/// The outside did not do what it was asked to do.
+/// The outside didn't do what it was asked to do.
 #[derive(Clone, Copy, Debug, PartialEq, Eq)]
 pub struct Failed;
 

@@ -83,6 +83,11 @@ monomial-value p r z e x h n is f =
 
 -- ---- c more at one degree
 
+pub trimmed-value : (p front : List Rat) (z : Rat) (x : Value 0) → p ≡ front ++ (z ∷ []) → (fraction z).num ≡ pos 0 → value_at front x ≡ value_at p x
+trimmed-value p front z x is e =
+    sym (ap (λ l. value_at l x) is ∙ value_at-push front z x ∙ ap (λ v. value_at front x +ᵛ pow (ValueR 0) x (length front) *ᵛ v) (number-zero z e)
+    ∙ ring (ValueR 0) (value_at front x ∷ pow (ValueR 0) x (length front) ∷ []) (search reads depth 16) refl)
+
 pub padded-value : (p r : List Rat) (z : Rat) (x T : Value 0) → r ≡ p ++ (z ∷ []) → fraction z ≡ whole (pos 0) → value_at p x ≡ T → value_at r x ≡ T
 padded-value p r z x T is e h =
     ap (λ l. value_at l x) is ∙ value_at-push p z x ∙ ap (λ v. value_at p x +ᵛ pow (ValueR 0) x (length p) *ᵛ v) (number-whole z (pos 0) e)

@@ -3,3 +3,4 @@ pub mod Telescoping
 pub mod Terms
 pub mod CommonDenominator
 pub mod Linear
+pub mod Lines

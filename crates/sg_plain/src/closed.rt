@@ -10,6 +10,7 @@ ghost use Rattle.sg_spec.specs.Printing.{InForm};
 use crate::coefficients::collected;
 use crate::common::over_common;
 use crate::linear::Linear;
+use crate::polynomial::trimmed;
 use crate::reading::linear;
 use crate::sums::summed;
 use crate::terms::canonical_tree;
@@ -17,37 +18,9 @@ use sg_expr::Expr;
 use sg_num::Stop;
 use std::alloc::Global;
 
-// By telescoping from the term of highest degree down.
-fn telescoped(alloc: Global, f: &Expr, a: i64) -> Result<Expr, Stop>
-    requires { IsPlain (tree_of f.now) }
-    ensures closed { IfOk result (λ h. Closed (tree_of f.now) [] a (tree_of h) a) }
-    ensures canonical { IfOk result (λ h. IsCanonical (tree_of h)) }
-    ensures form { IfOk result (λ h. InForm false false (tree_of h)) }
-    ensures wide { IfErr result KeepsWideStep }
-{
-    let p = collected(alloc, f)?;
-    let q = summed(alloc, p.as_slice(), a)?;
-    let all = over_common(alloc, q.as_slice())?;
-    let h = canonical_tree(alloc, all.coefficients.as_slice(), all.denominator)?;
-    Ok(h)
-}
-
-// The coefficients of f where they and a are small, and f is of degree at most one.
-fn small_linear(f: &Expr, a: i64) -> Option<Linear>
-    requires { IsPlain (tree_of f.now) }
-    ensures linear { IfSome result (λ l. IsLinear (tree_of f.now) l.constant l.slope) }
-    ensures limit { IsSome result → unsigned_abs a ≤ 64 }
-    ensures some { (degrees (tree_of f.now)).variable ≤ 1 → weight (tree_of f.now) ≤ 65536 → unsigned_abs a ≤ 64 → IsSome result }
-{
-    if a.unsigned_abs() > 64 {
-        return None;
-    }
-    linear(f)
-}
-
 /// The closed form of the sum of a plain polynomial from a on, as the canonical tree of a polynomial in the variable, which
 /// is the upper limit. It is found by telescoping from the term of highest degree down; of degree at most one, with small
-/// coefficients, in whole arithmetic, where no step is wide. The error is want of memory, or a step that doesn't fit 128
+/// coefficients, in whole arithmetic, where no step is wide. The error is out of memory, or a step that doesn't fit 128
 /// bits.
 pub fn closed_form(alloc: Global, f: &Expr, a: i64) -> Result<Expr, Stop>
     requires { IsPlain (tree_of f.now) }
@@ -63,8 +36,36 @@ pub fn closed_form(alloc: Global, f: &Expr, a: i64) -> Result<Expr, Stop>
             Ok(h)
         }
         None => {
-            let h = telescoped(alloc, f, a)?;
+            let h = summed_by_telescoping(alloc, f, a)?;
             Ok(h)
         }
     }
+}
+
+// The coefficients of f where they and a are small, and f is of degree at most one.
+fn small_linear(f: &Expr, a: i64) -> Option<Linear>
+    requires { IsPlain (tree_of f.now) }
+    ensures linear { IfSome result (λ l. IsLinear (tree_of f.now) l.constant l.slope) }
+    ensures limit { IsSome result → unsigned_abs a ≤ 64 }
+    ensures some { (degrees (tree_of f.now)).variable ≤ 1 → weight (tree_of f.now) ≤ 65536 → unsigned_abs a ≤ 64 → IsSome result }
+{
+    if a.unsigned_abs() > 64 {
+        return None;
+    }
+    linear(f)
+}
+
+// By telescoping from the term of highest degree down.
+fn summed_by_telescoping(alloc: Global, f: &Expr, a: i64) -> Result<Expr, Stop>
+    requires { IsPlain (tree_of f.now) }
+    ensures closed { IfOk result (λ h. Closed (tree_of f.now) [] a (tree_of h) a) }
+    ensures canonical { IfOk result (λ h. IsCanonical (tree_of h)) }
+    ensures form { IfOk result (λ h. InForm false false (tree_of h)) }
+    ensures wide { IfErr result KeepsWideStep }
+{
+    let p = collected(alloc, f)?;
+    let q = summed(alloc, trimmed(p.as_slice()), a)?;
+    let all = over_common(alloc, q.as_slice())?;
+    let h = canonical_tree(alloc, all.coefficients.as_slice(), all.denominator)?;
+    Ok(h)
 }

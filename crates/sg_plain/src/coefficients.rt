@@ -13,121 +13,99 @@ ghost use Rattle.sg_num.specs.Stopped.{KeepsWideStep};
 ghost use Rattle.sg_plain.specs.Evaluation.{value_at, plain_value};
 
 use crate::polynomial::{
-    added, coefficient, monomial, one, opposite, power, times, variable, whole,
+    added, coefficient, monomial, one, opposite, power, times, trimmed, variable, whole,
 };
-use crate::step::{difference, product, sum as total};
+use crate::step::{difference, product, sum};
 use sg_expr::Expr;
 use sg_num::{Rat, Row, Stop};
 use std::alloc::{AllocError, Global};
 
-// Whether it is the variable.
-fn is_variable(e: &Expr) -> bool
-    ensures { IsTrue result → tree_of e.now ≡ here }
-{
-    match e {
-        Expr::Here => true,
-        _ => false,
-    }
-}
-
-// Makes room for a coefficient of this degree.
-fn pad(sum: &mut Vec<Rat>, degree: usize) -> Result<(), AllocError>
-    requires { degree < 2 ^ 62 }
-    ensures value { OnOk result ((x : Value 0) → value_at sum.new.items x ≡ value_at sum.old.items x) }
-    ensures room { OnOk result (degree < length sum.new.items) }
-{
-    for place in sum.len()..degree + 1 {
-        let _ = place;
-        sum.push(Rat::whole(0))?;
-    }
-    Ok(())
-}
-
-// Adds c x^degree.
-fn add_term(sum: &mut Vec<Rat>, c: Rat, degree: usize) -> Result<(), Stop>
-    requires { degree < 2 ^ 62 }
-    ensures value { OnOk result ((x : Value 0) → value_at sum.new.items x ≡ value_at sum.old.items x +ᵛ number c *ᵛ pow (ValueR 0) x degree) }
-    ensures wide { IfErr result KeepsWideStep }
-{
-    pad(sum, degree)?;
-    let next = total(sum[degree], c)?;
-    sum[degree] = next;
-    Ok(())
-}
-
-// Adds c p.
-fn add_all(sum: &mut Vec<Rat>, c: Rat, p: &[Rat]) -> Result<(), Stop>
-    ensures value { OnOk result ((x : Value 0) → value_at sum.new.items x ≡ value_at sum.old.items x +ᵛ number c *ᵛ value_at p.now x) }
-    ensures wide { IfErr result KeepsWideStep }
-{
-    for i in 0..p.len() {
-        let more = product(c, coefficient(p, i))?;
-        add_term(sum, more, i)?;
-    }
-    Ok(())
-}
-
-// Adds c times a plain polynomial that is none of the simple parts.
-#[inline(never)]
-fn add_other(alloc: Global, sum: &mut Vec<Rat>, c: Rat, e: &Expr) -> Result<(), Stop>
+/// The coefficients of a plain polynomial, the lowest first. Zeros may stand at the end.
+pub fn collected(alloc: Global, e: &Expr) -> Result<Vec<Rat>, Stop>
     requires { IsPlain (tree_of e.now) }
-    ensures value { OnOk result ((x : Value 0) → value_at sum.new.items x ≡ value_at sum.old.items x +ᵛ number c *ᵛ plain_value (tree_of e.now) x) }
+    ensures value { IfOk result (λ p. (k : ℤ) → Worth (val (tree_of e.now) (pos 0) k) (value_at p.items (whole_value 0 k))) }
     ensures wide { IfErr result KeepsWideStep }
 {
-    let p = coefficients(alloc, e)?;
-    add_all(sum, c, p.as_slice())
+    let mut total = Vec::new(alloc);
+    add_multiple(alloc, &mut total, Rat::whole(1), e)?;
+    Ok(total)
 }
 
-// Adds c times a plain polynomial. One of many terms goes far down on the left alone: so left operands are taken in a loop.
+// Adds c times a plain polynomial. One of many terms is deep only on its left side, so left operands
+// are taken in a loop.
 #[cycle(multiples)]
-fn add_multiple(alloc: Global, sum: &mut Vec<Rat>, c: Rat, e: &Expr) -> Result<(), Stop>
+fn add_multiple(alloc: Global, total: &mut Vec<Rat>, c: Rat, e: &Expr) -> Result<(), Stop>
     requires { IsPlain (tree_of e.now) }
-    ensures value { OnOk result ((x : Value 0) → value_at sum.new.items x ≡ value_at sum.old.items x +ᵛ number c *ᵛ plain_value (tree_of e.now) x) }
+    ensures value { OnOk result ((x : Value 0) → value_at total.new.items x ≡ value_at total.old.items x +ᵛ number c *ᵛ plain_value (tree_of e.now) x) }
     ensures wide { IfErr result KeepsWideStep }
 {
     let mut left = e;
     while let Expr::Add(a, b) = left {
-        add_multiple(alloc, sum, c, b)?;
+        add_multiple(alloc, total, c, b)?;
         left = a;
     }
-    add_part(alloc, sum, c, left)
+    add_part(alloc, total, c, left)
 }
 
 // Adds c times a plain polynomial, by its parts.
 #[cycle(multiples)]
-fn add_part(alloc: Global, sum: &mut Vec<Rat>, c: Rat, e: &Expr) -> Result<(), Stop>
+fn add_part(alloc: Global, total: &mut Vec<Rat>, c: Rat, e: &Expr) -> Result<(), Stop>
     requires { IsPlain (tree_of e.now) }
-    ensures value { OnOk result ((x : Value 0) → value_at sum.new.items x ≡ value_at sum.old.items x +ᵛ number c *ᵛ plain_value (tree_of e.now) x) }
+    ensures value { OnOk result ((x : Value 0) → value_at total.new.items x ≡ value_at total.old.items x +ᵛ number c *ᵛ plain_value (tree_of e.now) x) }
     ensures wide { IfErr result KeepsWideStep }
 {
     match e {
         Expr::Num(n) => {
             let d = product(c, Rat::whole(*n))?;
-            add_term(sum, d, 0)
+            add_term(total, d, 0)
         }
-        Expr::Here => add_term(sum, c, 1),
+        Expr::Here => add_term(total, c, 1),
         Expr::Add(a, b) => {
-            add_multiple(alloc, sum, c, a)?;
-            add_multiple(alloc, sum, c, b)
+            add_multiple(alloc, total, c, a)?;
+            add_multiple(alloc, total, c, b)
         }
         Expr::Neg(a) => {
             let minus = difference(Rat::whole(0), c)?;
-            add_multiple(alloc, sum, minus, a)
+            add_multiple(alloc, total, minus, a)
         }
         Expr::Mul(a, b) => match number_of(a) {
             Some(n) => {
                 let d = product(c, Rat::whole(n))?;
-                add_multiple(alloc, sum, d, b)
+                add_multiple(alloc, total, d, b)
             }
-            None => add_other(alloc, sum, c, e),
+            None => add_other(alloc, total, c, e),
         },
         Expr::Pow(a, n) => if *n <= 64 && is_variable(a) {
-            add_term(sum, c, *n as usize)
+            add_term(total, c, *n as usize)
         } else {
-            add_other(alloc, sum, c, e)
+            add_other(alloc, total, c, e)
         },
         Expr::Param | Expr::Div(_, _) | Expr::Sum { .. } | Expr::Prod { .. } => Ok(()),
     }
+}
+
+// Adds c x^degree.
+fn add_term(total: &mut Vec<Rat>, c: Rat, degree: usize) -> Result<(), Stop>
+    requires { degree < 2 ^ 62 }
+    ensures value { OnOk result ((x : Value 0) → value_at total.new.items x ≡ value_at total.old.items x +ᵛ number c *ᵛ pow (ValueR 0) x degree) }
+    ensures wide { IfErr result KeepsWideStep }
+{
+    pad(total, degree)?;
+    let next = sum(total[degree], c)?;
+    total[degree] = next;
+    Ok(())
+}
+
+// Makes room for a coefficient of this degree.
+fn pad(total: &mut Vec<Rat>, degree: usize) -> Result<(), AllocError>
+    requires { degree < 2 ^ 62 }
+    ensures value { OnOk result ((x : Value 0) → value_at total.new.items x ≡ value_at total.old.items x) }
+    ensures room { OnOk result (degree < length total.new.items) }
+{
+    for _place in total.len()..degree + 1 {
+        total.push(Rat::whole(0))?;
+    }
+    Ok(())
 }
 
 // The number, where it is one.
@@ -140,15 +118,37 @@ fn number_of(e: &Expr) -> Option<i128>
     }
 }
 
-/// The coefficients of a plain polynomial, the lowest first. Zeros may stand at the end.
-pub fn collected(alloc: Global, e: &Expr) -> Result<Vec<Rat>, Stop>
+// Whether it is the variable.
+fn is_variable(e: &Expr) -> bool
+    ensures { IsTrue result → tree_of e.now ≡ here }
+{
+    match e {
+        Expr::Here => true,
+        _ => false,
+    }
+}
+
+// Adds c times a plain polynomial that is none of the simple parts.
+#[inline(never)]
+fn add_other(alloc: Global, total: &mut Vec<Rat>, c: Rat, e: &Expr) -> Result<(), Stop>
     requires { IsPlain (tree_of e.now) }
-    ensures value { IfOk result (λ p. (k : ℤ) → Worth (val (tree_of e.now) (pos 0) k) (value_at p.items (whole_value 0 k))) }
+    ensures value { OnOk result ((x : Value 0) → value_at total.new.items x ≡ value_at total.old.items x +ᵛ number c *ᵛ plain_value (tree_of e.now) x) }
     ensures wide { IfErr result KeepsWideStep }
 {
-    let mut sum = Vec::new(alloc);
-    add_multiple(alloc, &mut sum, Rat::whole(1), e)?;
-    Ok(sum)
+    let p = coefficients(alloc, e)?;
+    add_all(total, c, p.as_slice())
+}
+
+// Adds c p.
+fn add_all(total: &mut Vec<Rat>, c: Rat, p: &[Rat]) -> Result<(), Stop>
+    ensures value { OnOk result ((x : Value 0) → value_at total.new.items x ≡ value_at total.old.items x +ᵛ number c *ᵛ value_at p.now x) }
+    ensures wide { IfErr result KeepsWideStep }
+{
+    for i in 0..p.len() {
+        let more = product(c, coefficient(p, i))?;
+        add_term(total, more, i)?;
+    }
+    Ok(())
 }
 
 // The coefficients of a plain polynomial, the lowest first, by sums, products and powers of such lists. Zeros may stand at the end.
@@ -180,21 +180,21 @@ fn coefficients(alloc: Global, e: &Expr) -> Result<Row<Rat>, Stop>
         Expr::Mul(a, b) => {
             let p = coefficients(alloc, a)?;
             let q = coefficients(alloc, b)?;
-            let all = times(alloc, p.as_slice(), q.as_slice())?;
+            let all = times(alloc, trimmed(p.as_slice()), trimmed(q.as_slice()))?;
             Ok(all)
         }
-        Expr::Pow(a, e) => {
-            if *e == 0 {
+        Expr::Pow(a, n) => {
+            if *n == 0 {
                 // a base under the exponent 0 is never expanded
                 let unit = one(alloc)?;
                 return Ok(unit);
             }
             if is_variable(a) {
-                let term = monomial(alloc, *e)?;
+                let term = monomial(alloc, *n)?;
                 return Ok(term);
             }
             let p = coefficients(alloc, a)?;
-            let all = power(alloc, p.as_slice(), *e)?;
+            let all = power(alloc, trimmed(p.as_slice()), *n)?;
             Ok(all)
         }
         Expr::Param | Expr::Div(_, _) | Expr::Sum { .. } | Expr::Prod { .. } => Ok(Row::new(alloc)),

@@ -15,26 +15,6 @@ pub struct Common {
     pub denominator: i128,
 }
 
-// All times the denominator of one more coefficient, and that one's numerator at the end.
-fn with_lowest(
-    alloc: Global,
-    coefficients: &[i128],
-    denominator: i128,
-    more: Rat,
-) -> Result<Common, Stop>
-    ensures coefficients { IfOk result (λ w. w.coefficients ≡ map (λ a. a *ℤ pos (fraction more).den) coefficients.now ++ (fraction more).num ∷ []) }
-    ensures denominator { IfOk result (λ w. w.denominator ≡ denominator *ℤ pos (fraction more).den) }
-    ensures wide { IfErr result KeepsWideStep }
-{
-    let mut all = multiples(alloc, coefficients, more.den())?;
-    all.push(more.num())?;
-    let product = whole_product(denominator, more.den())?;
-    Ok(Common {
-        coefficients: all,
-        denominator: product,
-    })
-}
-
 /// The polynomial with the coefficients p, the lowest first, over its least common denominator.
 pub fn over_common(alloc: Global, p: &[Rat]) -> Result<Common, Stop>
     ensures common { IfOk result (λ w. IsCommon p.now w.coefficients w.denominator) }
@@ -57,4 +37,24 @@ pub fn over_common(alloc: Global, p: &[Rat]) -> Result<Common, Stop>
             Ok(all)
         }
     }
+}
+
+// All times the denominator of one more coefficient, and that one's numerator at the end.
+fn with_lowest(
+    alloc: Global,
+    coefficients: &[i128],
+    denominator: i128,
+    more: Rat,
+) -> Result<Common, Stop>
+    ensures coefficients { IfOk result (λ w. w.coefficients ≡ map (λ a. a *ℤ pos (fraction more).den) coefficients.now ++ (fraction more).num ∷ []) }
+    ensures denominator { IfOk result (λ w. w.denominator ≡ denominator *ℤ pos (fraction more).den) }
+    ensures wide { IfErr result KeepsWideStep }
+{
+    let mut all = multiples(alloc, coefficients, more.den())?;
+    all.push(more.num())?;
+    let product = whole_product(denominator, more.den())?;
+    Ok(Common {
+        coefficients: all,
+        denominator: product,
+    })
 }

@@ -8,30 +8,13 @@ pub struct Linear {
     pub ghost small: { unsigned_abs constant + unsigned_abs slope ≤ 65536 },
 }
 
-/// The product of two numbers of small sizes.
-pub fn multiplied(a: i128, b: i128) -> i128
-    requires left { unsigned_abs a ≤ 4294967296 }
-    requires right { unsigned_abs b ≤ 4294967296 }
-    ensures { result ≡ a *ℤ b }
-{
-    a * b
-}
-
-/// The sum of two numbers of small sizes.
-pub fn plus(a: i128, b: i128) -> i128
-    requires left { unsigned_abs a ≤ 18446744073709551616 }
-    requires right { unsigned_abs b ≤ 18446744073709551616 }
-    ensures { result ≡ a +ℤ b }
-{
-    a + b
-}
-
 impl Linear {
     ghost use Rattle.std.specs.Prelude.{neg_ℤ, ◌⊎◌, ℕ, ◌^◌};
     ghost use Rattle.sg_algebra.proofs.Ring.{pow};
     ghost use Rattle.sg_algebra.proofs.Value.{Value, ◌*ᵛ◌};
     ghost use Rattle.sg_algebra.proofs.ValueField.{ValueR};
-    ghost use Rattle.sg_plain.specs.Linear.{linear_size, linear_value};
+    ghost use Rattle.sg_plain.specs.Linear.{linear_size};
+    ghost use Rattle.sg_plain.specs.Lines.{size_of, value_of};
 
     /// These coefficients, where they are small.
     pub fn new(constant: i128, slope: i128) -> Option<Linear>
@@ -52,7 +35,7 @@ impl Linear {
     pub fn added(self, other: Linear) -> Option<Linear>
         ensures constant { IfSome result (λ l. l.constant ≡ self.constant +ℤ other.constant) }
         ensures slope { IfSome result (λ l. l.slope ≡ self.slope +ℤ other.slope) }
-        ensures some { linear_size self.constant self.slope + linear_size other.constant other.slope ≤ 65536 → IsSome result }
+        ensures some { size_of self + size_of other ≤ 65536 → IsSome result }
     {
         Linear::new(
             plus(self.constant, other.constant),
@@ -76,17 +59,17 @@ impl Linear {
         requires { unsigned_abs by ≤ 65536 }
         ensures constant { IfSome result (λ l. l.constant ≡ self.constant *ℤ by) }
         ensures slope { IfSome result (λ l. l.slope ≡ self.slope *ℤ by) }
-        ensures some { linear_size self.constant self.slope * unsigned_abs by ≤ 65536 → IsSome result }
+        ensures some { size_of self * unsigned_abs by ≤ 65536 → IsSome result }
     {
         Linear::new(multiplied(self.constant, by), multiplied(self.slope, by))
     }
 
     /// The product, where one of the two is constant and it is small.
     pub fn times(self, other: Linear) -> Option<Linear>
-        ensures value { IfSome result (λ l. (x : Value 0) → linear_value l.constant l.slope x ≡ linear_value self.constant self.slope x *ᵛ linear_value other.constant other.slope x) }
-        ensures size { IfSome result (λ l. linear_size l.constant l.slope ≤ linear_size self.constant self.slope * linear_size other.constant other.slope) }
+        ensures value { IfSome result (λ l. (x : Value 0) → value_of l x ≡ value_of self x *ᵛ value_of other x) }
+        ensures size { IfSome result (λ l. size_of l ≤ size_of self * size_of other) }
         ensures flat { self.slope ≡ pos 0 → other.slope ≡ pos 0 → IfSome result (λ l. l.slope ≡ pos 0) }
-        ensures some { (self.slope ≡ pos 0) ⊎ (other.slope ≡ pos 0) → linear_size self.constant self.slope * linear_size other.constant other.slope ≤ 65536 → IsSome result }
+        ensures some { (self.slope ≡ pos 0) ⊎ (other.slope ≡ pos 0) → size_of self * size_of other ≤ 65536 → IsSome result }
     {
         if other.slope == 0 {
             let product = self.scaled(other.constant)?;
@@ -101,19 +84,36 @@ impl Linear {
 
     /// The power, where it is of degree at most one and small.
     pub fn power(self, e: u128) -> Option<Linear>
-        ensures value { IfSome result (λ l. (x : Value 0) → linear_value l.constant l.slope x ≡ pow (ValueR 0) (linear_value self.constant self.slope x) e) }
-        ensures size { (w : ℕ) → linear_size self.constant self.slope ≤ w → IfSome result (λ l. linear_size l.constant l.slope ≤ w ^ e) }
+        ensures value { IfSome result (λ l. (x : Value 0) → value_of l x ≡ pow (ValueR 0) (value_of self x) e) }
+        ensures size { (w : ℕ) → size_of self ≤ w → IfSome result (λ l. size_of l ≤ w ^ e) }
         ensures flat { self.slope ≡ pos 0 → IfSome result (λ l. l.slope ≡ pos 0) }
-        ensures some { (w : ℕ) → linear_size self.constant self.slope ≤ w → 1 ≤ w → w ^ e ≤ 65536 → (self.slope ≡ pos 0) ⊎ (e ≤ 1) → IsSome result }
+        ensures some { (w : ℕ) → size_of self ≤ w → 1 ≤ w → w ^ e ≤ 65536 → (self.slope ≡ pos 0) ⊎ (e ≤ 1) → IsSome result }
     {
         let mut result = Linear {
             constant: 1,
             slope: 0,
         };
-        for done in 0..e {
-            let _ = done;
+        for _done in 0..e {
             result = result.times(self)?;
         }
         Some(result)
     }
+}
+
+/// The sum of two numbers of small sizes.
+pub fn plus(a: i128, b: i128) -> i128
+    requires left { unsigned_abs a ≤ 18446744073709551616 }
+    requires right { unsigned_abs b ≤ 18446744073709551616 }
+    ensures { result ≡ a +ℤ b }
+{
+    a + b
+}
+
+/// The product of two numbers of small sizes.
+pub fn multiplied(a: i128, b: i128) -> i128
+    requires left { unsigned_abs a ≤ 4294967296 }
+    requires right { unsigned_abs b ≤ 4294967296 }
+    ensures { result ≡ a *ℤ b }
+{
+    a * b
 }

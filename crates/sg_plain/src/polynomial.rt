@@ -11,11 +11,54 @@ use crate::step::{product, sum};
 use sg_num::{Rat, Row, Stop};
 use std::alloc::{AllocError, Global};
 
-/// The coefficient at i; 0 past the end.
-pub fn coefficient(p: &[Rat], i: usize) -> Rat
-    ensures { (x : Value 0) → value_at (drop i p.now) x ≡ number result +ᵛ x *ᵛ value_at (drop (i + 1) p.now) x }
+/// The constant c.
+pub fn constant(alloc: Global, c: Rat) -> Result<Row<Rat>, AllocError>
+    ensures { IfOk result (λ r. r ≡ c ∷ []) }
 {
-    if i < p.len() { p[i] } else { Rat::whole(0) }
+    let mut result = Row::new(alloc);
+    result.push(c)?;
+    Ok(result)
+}
+
+/// The constant 1.
+#[inline(never)]
+pub fn one(alloc: Global) -> Result<Row<Rat>, AllocError>
+    ensures { IfOk result (λ r. (x : Value 0) → value_at r x ≡ one_value) }
+{
+    let p = constant(alloc, Rat::whole(1))?;
+    Ok(p)
+}
+
+/// The variable.
+#[inline(never)]
+pub fn variable(alloc: Global) -> Result<Row<Rat>, AllocError>
+    ensures { IfOk result (λ r. (x : Value 0) → value_at r x ≡ x) }
+{
+    let p = one(alloc)?;
+    let p = shifted(alloc, p.as_slice())?;
+    Ok(p)
+}
+
+/// The whole number n.
+#[inline(never)]
+pub fn whole(alloc: Global, n: i128) -> Result<Row<Rat>, AllocError>
+    ensures { IfOk result (λ r. (x : Value 0) → value_at r x ≡ whole_value 0 n) }
+{
+    let p = constant(alloc, Rat::whole(n))?;
+    Ok(p)
+}
+
+/// The variable to the power e.
+#[inline(never)]
+pub fn monomial(alloc: Global, e: u128) -> Result<Row<Rat>, AllocError>
+    ensures { IfOk result (λ r. (x : Value 0) → value_at r x ≡ pow (ValueR 0) x e) }
+{
+    let mut result = Row::new(alloc);
+    for _below in 0..e {
+        result.push(Rat::whole(0))?;
+    }
+    result.push(Rat::whole(1))?;
+    Ok(result)
 }
 
 /// p + c q.
@@ -34,6 +77,13 @@ pub fn with_multiple(alloc: Global, p: &[Rat], c: Rat, q: &[Rat]) -> Result<Row<
     Ok(result)
 }
 
+/// The coefficient at i; 0 past the end.
+pub fn coefficient(p: &[Rat], i: usize) -> Rat
+    ensures { (x : Value 0) → value_at (drop i p.now) x ≡ number result +ᵛ x *ᵛ value_at (drop (i + 1) p.now) x }
+{
+    if i < p.len() { p[i] } else { Rat::whole(0) }
+}
+
 /// x p.
 pub fn shifted(alloc: Global, p: &[Rat]) -> Result<Row<Rat>, AllocError>
     ensures value { IfOk result (λ r. (x : Value 0) → value_at r x ≡ x *ᵛ value_at p.now x) }
@@ -47,13 +97,34 @@ pub fn shifted(alloc: Global, p: &[Rat]) -> Result<Row<Rat>, AllocError>
     Ok(result)
 }
 
-// c p.
-fn multiple(alloc: Global, c: Rat, p: &[Rat]) -> Result<Row<Rat>, Stop>
-    ensures value { IfOk result (λ r. (x : Value 0) → value_at r x ≡ number c *ᵛ value_at p.now x) }
+/// p + q.
+#[inline(never)]
+pub fn added(alloc: Global, p: &[Rat], q: &[Rat]) -> Result<Row<Rat>, Stop>
+    ensures value { IfOk result (λ r. (x : Value 0) → value_at r x ≡ value_at p.now x +ᵛ value_at q.now x) }
     ensures wide { IfErr result KeepsWideStep }
 {
-    let all = with_multiple(alloc, &[], c, p)?;
-    Ok(all)
+    let sum = with_multiple(alloc, p, Rat::whole(1), q)?;
+    Ok(sum)
+}
+
+/// -p.
+#[inline(never)]
+pub fn opposite(alloc: Global, p: &[Rat]) -> Result<Row<Rat>, Stop>
+    ensures value { IfOk result (λ r. (x : Value 0) → value_at r x ≡ neg_value (value_at p.now x)) }
+    ensures wide { IfErr result KeepsWideStep }
+{
+    let negated = with_multiple(alloc, &[], Rat::whole(-1), p)?;
+    Ok(negated)
+}
+
+/// p without the zeros at its end.
+pub fn trimmed(p: &[Rat]) -> &[Rat]
+    ensures { (x : Value 0) → value_at result.now x ≡ value_at p.now x }
+{
+    match p.split_last() {
+        None => p,
+        Some((c, rest)) => if c.is_zero() { trimmed(rest) } else { p },
+    }
 }
 
 /// p q, by the school's rule.
@@ -87,80 +158,17 @@ pub fn power(alloc: Global, p: &[Rat], e: u128) -> Result<Row<Rat>, Stop>
     ensures wide { IfErr result KeepsWideStep }
 {
     let mut result = one(alloc)?;
-    for done in 0..e {
-        let _ = done;
+    for _done in 0..e {
         result = times(alloc, p, result.as_slice())?;
     }
     Ok(result)
 }
 
-/// The constant c.
-pub fn constant(alloc: Global, c: Rat) -> Result<Row<Rat>, AllocError>
-    ensures { IfOk result (λ r. r ≡ c ∷ []) }
-{
-    let mut result = Row::new(alloc);
-    result.push(c)?;
-    Ok(result)
-}
-
-/// p + q.
-#[inline(never)]
-pub fn added(alloc: Global, p: &[Rat], q: &[Rat]) -> Result<Row<Rat>, Stop>
-    ensures value { IfOk result (λ r. (x : Value 0) → value_at r x ≡ value_at p.now x +ᵛ value_at q.now x) }
+// c p.
+fn multiple(alloc: Global, c: Rat, p: &[Rat]) -> Result<Row<Rat>, Stop>
+    ensures value { IfOk result (λ r. (x : Value 0) → value_at r x ≡ number c *ᵛ value_at p.now x) }
     ensures wide { IfErr result KeepsWideStep }
 {
-    let sum = with_multiple(alloc, p, Rat::whole(1), q)?;
-    Ok(sum)
-}
-
-/// -p.
-#[inline(never)]
-pub fn opposite(alloc: Global, p: &[Rat]) -> Result<Row<Rat>, Stop>
-    ensures value { IfOk result (λ r. (x : Value 0) → value_at r x ≡ neg_value (value_at p.now x)) }
-    ensures wide { IfErr result KeepsWideStep }
-{
-    let negated = with_multiple(alloc, &[], Rat::whole(-1), p)?;
-    Ok(negated)
-}
-
-/// The constant 1.
-#[inline(never)]
-pub fn one(alloc: Global) -> Result<Row<Rat>, AllocError>
-    ensures { IfOk result (λ r. (x : Value 0) → value_at r x ≡ one_value) }
-{
-    let p = constant(alloc, Rat::whole(1))?;
-    Ok(p)
-}
-
-/// The variable to the power e.
-#[inline(never)]
-pub fn monomial(alloc: Global, e: u128) -> Result<Row<Rat>, AllocError>
-    ensures { IfOk result (λ r. (x : Value 0) → value_at r x ≡ pow (ValueR 0) x e) }
-{
-    let mut result = Row::new(alloc);
-    for below in 0..e {
-        let _ = below;
-        result.push(Rat::whole(0))?;
-    }
-    result.push(Rat::whole(1))?;
-    Ok(result)
-}
-
-/// The variable.
-#[inline(never)]
-pub fn variable(alloc: Global) -> Result<Row<Rat>, AllocError>
-    ensures { IfOk result (λ r. (x : Value 0) → value_at r x ≡ x) }
-{
-    let p = one(alloc)?;
-    let p = shifted(alloc, p.as_slice())?;
-    Ok(p)
-}
-
-/// The whole number n.
-#[inline(never)]
-pub fn whole(alloc: Global, n: i128) -> Result<Row<Rat>, AllocError>
-    ensures { IfOk result (λ r. (x : Value 0) → value_at r x ≡ whole_value 0 n) }
-{
-    let p = constant(alloc, Rat::whole(n))?;
-    Ok(p)
+    let all = with_multiple(alloc, &[], c, p)?;
+    Ok(all)
 }

@@ -12,6 +12,38 @@ use crate::step::{difference, product, quotient, sum};
 use sg_num::{Rat, Row, Stop};
 use std::alloc::{AllocError, Global};
 
+/// The polynomial q with q(m) - q(m-1) = p(m) that is 0 at a - 1: the sum of p from a to m.
+pub fn summed(alloc: Global, p: &[Rat], a: i64) -> Result<Row<Rat>, Stop>
+    ensures step { IfOk result (λ q. (x : Value 0) → value_at q x ≡ value_at q (x -ᵛ one_value) +ᵛ value_at p.now x) }
+    ensures start { IfOk result (λ q. value_at q (whole_value 0 (a -ℤ pos 1)) ≡ zero_value) }
+    ensures wide { IfErr result KeepsWideStep }
+{
+    let rows = Differences::below(alloc, p.len())?;
+    let q = rows.telescoped(alloc, p)?;
+    let all = shifted(alloc, q.as_slice())?;
+    let before = value_of(all.as_slice(), Rat::whole(a as i128 - 1))?;
+    let opposite = difference(Rat::whole(0), before)?;
+    let lowest = constant(alloc, opposite)?;
+    let result = added(alloc, lowest.as_slice(), all.as_slice())?;
+    Ok(result)
+}
+
+/// The value at x.
+fn value_of(p: &[Rat], x: Rat) -> Result<Rat, Stop>
+    ensures value { IfOk result (λ v. number v ≡ value_at p.now (number x)) }
+    ensures wide { IfErr result KeepsWideStep }
+{
+    match p.split_first() {
+        None => Ok(Rat::whole(0)),
+        Some((c, rest)) => {
+            let above = value_of(rest, x)?;
+            let more = product(x, above)?;
+            let v = sum(*c, more)?;
+            Ok(v)
+        }
+    }
+}
+
 /// The lower coefficients of x^(n+1) - (x-1)^(n+1), for n from some degree down to 0.
 #[derive(Drop)]
 pub enum Differences {
@@ -22,36 +54,23 @@ pub enum Differences {
     },
 }
 
-// n + 1.
-fn one_more(n: usize) -> Rat
-    ensures value { number result ≡ nat (ValueR 0) (n + 1) }
-    ensures some { (fraction result).num ≢ pos 0 }
-{
-    Rat::whole(n as i128 + 1)
-}
-
-// -(n + 1).
-fn minus_one_more(n: usize) -> Rat
-    ensures value { number result ≡ neg_value (nat (ValueR 0) (n + 1)) }
-    ensures some { (fraction result).num ≢ pos 0 }
-{
-    Rat::whole(-1 - n as i128)
-}
-
-/// The coefficients p, and one more at the end.
-fn with_top(alloc: Global, p: &[Rat], c: Rat) -> Result<Row<Rat>, AllocError>
-    ensures { IfOk result (λ r. r ≡ p.now ++ c ∷ []) }
-{
-    let mut result = Row::new(alloc);
-    for item in p {
-        result.push(*item)?;
-    }
-    result.push(c)?;
-    Ok(result)
-}
-
 impl Differences {
     ghost use Rattle.sg_plain.specs.Telescoping.{IsLower, AreLower, Telescopes};
+
+    /// The lower coefficients for all degrees below n, the highest degree first.
+    pub fn below(alloc: Global, n: usize) -> Result<Differences, Stop>
+        ensures lower { IfOk result (λ d. AreLower n d) }
+        ensures wide { IfErr result KeepsWideStep }
+    {
+        let mut rows = Differences::End;
+        let mut lower = Row::new(alloc);
+        for _degree in 0..n {
+            let next = Differences::next(alloc, lower.as_slice())?;
+            rows = Differences::above(alloc, lower, rows)?;
+            lower = next;
+        }
+        Ok(rows)
+    }
 
     // From n to n + 1: x p - p - (n+1) x^n.
     fn next(alloc: Global, lower: &[Rat]) -> Result<Row<Rat>, Stop>
@@ -72,22 +91,6 @@ impl Differences {
     {
         let below = Box::new(alloc, rows)?;
         Ok(Differences::Next { lower, below })
-    }
-
-    /// Those for the degrees below n.
-    pub fn below(alloc: Global, n: usize) -> Result<Differences, Stop>
-        ensures lower { IfOk result (λ d. AreLower n d) }
-        ensures wide { IfErr result KeepsWideStep }
-    {
-        let mut rows = Differences::End;
-        let mut lower = Row::new(alloc);
-        for degree in 0..n {
-            let _ = degree;
-            let next = Differences::next(alloc, lower.as_slice())?;
-            rows = Differences::above(alloc, lower, rows)?;
-            lower = next;
-        }
-        Ok(rows)
     }
 
     /// q with x q(x) - (x-1) q(x-1) = p(x): the term of highest degree of what is left gives the next coefficient, and its
@@ -115,34 +118,30 @@ impl Differences {
     }
 }
 
-/// The value at x.
-fn value_of(p: &[Rat], x: Rat) -> Result<Rat, Stop>
-    ensures value { IfOk result (λ v. number v ≡ value_at p.now (number x)) }
-    ensures wide { IfErr result KeepsWideStep }
+// n + 1.
+fn one_more(n: usize) -> Rat
+    ensures value { number result ≡ nat (ValueR 0) (n + 1) }
+    ensures some { (fraction result).num ≢ pos 0 }
 {
-    match p.split_first() {
-        None => Ok(Rat::whole(0)),
-        Some((c, rest)) => {
-            let above = value_of(rest, x)?;
-            let more = product(x, above)?;
-            let v = sum(*c, more)?;
-            Ok(v)
-        }
-    }
+    Rat::whole(n as i128 + 1)
 }
 
-/// The polynomial q with q(m) - q(m-1) = p(m) that is 0 at a - 1: the sum of p from a to m.
-pub fn summed(alloc: Global, p: &[Rat], a: i64) -> Result<Row<Rat>, Stop>
-    ensures step { IfOk result (λ q. (x : Value 0) → value_at q x ≡ value_at q (x -ᵛ one_value) +ᵛ value_at p.now x) }
-    ensures start { IfOk result (λ q. value_at q (whole_value 0 (a -ℤ pos 1)) ≡ zero_value) }
-    ensures wide { IfErr result KeepsWideStep }
+// -(n + 1).
+fn minus_one_more(n: usize) -> Rat
+    ensures value { number result ≡ neg_value (nat (ValueR 0) (n + 1)) }
+    ensures some { (fraction result).num ≢ pos 0 }
 {
-    let rows = Differences::below(alloc, p.len())?;
-    let q = rows.telescoped(alloc, p)?;
-    let all = shifted(alloc, q.as_slice())?;
-    let before = value_of(all.as_slice(), Rat::whole(a as i128 - 1))?;
-    let opposite = difference(Rat::whole(0), before)?;
-    let lowest = constant(alloc, opposite)?;
-    let result = added(alloc, lowest.as_slice(), all.as_slice())?;
+    Rat::whole(-1 - n as i128)
+}
+
+/// The coefficients p, and one more at the end.
+fn with_top(alloc: Global, p: &[Rat], c: Rat) -> Result<Row<Rat>, AllocError>
+    ensures { IfOk result (λ r. r ≡ p.now ++ c ∷ []) }
+{
+    let mut result = Row::new(alloc);
+    for item in p {
+        result.push(*item)?;
+    }
+    result.push(c)?;
     Ok(result)
 }

@@ -4,14 +4,16 @@
 --   IsValue         a fraction is answered only for the value, and none only where there is none
 --   Stands          a fraction in lowest terms stands for this value, whose denominator is at least 1
 --   Answers         what is answered for a value and the steps that lead to it: after the first that doesn't fit none is made
+--   AnswersStep     what is answered for a step of two fractions
+--   AnswersTwo      what is answered for two parts and the step that joins them
 --   Evaluates       what is answered for the value of a tree
 use Rattle.std.specs.Prelude.{◌≡◌, ◌<◌, ℤ, List, Option, Some, None}
 use Rattle.sg_value.specs.declared.step.Outcome.{Outcome}
 use Rattle.sg_value.specs.declared.step.Outcome.TheVariants.{Value, NoValue, TooWide}
 use Rattle.sg_spec.specs.Fraction.{Fraction, Same}
 use Rattle.sg_spec.specs.Tree.{Tree}
-use Rattle.sg_spec.specs.Value.{val, SameValue}
-use Rattle.sg_spec.specs.Steps.{Operation, addition, subtraction, multiplication, division, Step, steps, AllFit, IsFirstMisfit}
+use Rattle.sg_spec.specs.Value.{val, both, SameValue}
+use Rattle.sg_spec.specs.Steps.{Operation, addition, subtraction, multiplication, division, Step, steps, steps_of_two, result_of, made, AllFit, IsFirstMisfit}
 use Rattle.sg_num.specs.declared.step.Op.{Op}
 use Rattle.sg_num.specs.declared.step.Op.TheVariants.{Add, Sub, Mul, Div}
 use Rattle.sg_num.specs.declared.step.Wide.{Wide}
@@ -39,6 +41,12 @@ abbrev pub Answers : Outcome → Option Fraction → List Step → Type 0
 Answers (Value r) v ss = Stands r v × AllFit ss
 Answers NoValue v ss = (v ≡ None) × AllFit ss
 Answers (TooWide w) v ss = IsFirstMisfit ss (step_of w)
+
+abbrev pub AnswersStep : Op → Outcome → Fraction → Fraction → Type 0
+AnswersStep op out x y = Answers out (result_of (operation_of op) x y) (made (operation_of op) (Some x) (Some y))
+
+abbrev pub AnswersTwo : Op → Outcome → Option Fraction → List Step → Option Fraction → List Step → Type 0
+AnswersTwo op out u us v vs = Answers out (both (result_of (operation_of op)) u v) (steps_of_two (operation_of op) u us v vs)
 
 abbrev pub Evaluates : Outcome → Tree → ℤ → ℤ → Type 0
 Evaluates out t n k = Answers out (val t n k) (steps t n k)

@@ -1,10 +1,9 @@
 ghost use Rattle.std.specs.Prelude.{◌≡◌, ◌≢◌, ◌↔◌, ℤ, pos, IfOk, IfErr, IsOk, IsTrue, List, Option, Some};
 ghost use Rattle.sg_spec.specs.Fraction.{Fraction, Same};
-ghost use Rattle.sg_spec.specs.Value.{both};
-ghost use Rattle.sg_spec.specs.Steps.{Step, made, result_of, steps_of_two};
+ghost use Rattle.sg_spec.specs.Steps.{Step};
 ghost use Rattle.sg_num.specs.Value.{fraction};
 ghost use Rattle.sg_num.specs.Steps.{outcome, fits_step};
-ghost use Rattle.sg_value.specs.Answer.{Answers, Stands, operation_of};
+ghost use Rattle.sg_value.specs.Answer.{Answers, AnswersStep, AnswersTwo, Stands};
 
 use sg_num::{Op, Rat, Wide};
 
@@ -18,7 +17,7 @@ pub enum Outcome {
 
 /// The step that joins two values.
 pub fn operate(op: Op, left: Rat, right: Rat) -> Outcome
-    ensures { (x y : Fraction) → Stands left (Some x) → Stands right (Some y) → Answers result (result_of (operation_of op) x y) (made (operation_of op) (Some x) (Some y)) }
+    ensures { (x y : Fraction) → Stands left (Some x) → Stands right (Some y) → AnswersStep op result x y }
 {
     if divides_by_zero(op, right) {
         return Outcome::NoValue;
@@ -26,6 +25,17 @@ pub fn operate(op: Op, left: Rat, right: Rat) -> Outcome
     match stepped(op, left, right) {
         Ok(r) => Outcome::Value(r),
         Err(wide) => Outcome::TooWide(wide),
+    }
+}
+
+/// The value of the left part joined with what the right part answers.
+pub fn join(op: Op, left: Rat, right: Outcome) -> Outcome
+    ensures { (u v : Option Fraction) (us vs : List Step) → Answers (Outcome.Value left) u us → Answers right v vs → AnswersTwo op result u us v vs }
+{
+    match right {
+        Outcome::Value(right) => operate(op, left, right),
+        Outcome::NoValue => Outcome::NoValue,
+        Outcome::TooWide(wide) => Outcome::TooWide(wide),
     }
 }
 
@@ -48,16 +58,5 @@ fn stepped(op: Op, left: Rat, right: Rat) -> Result<Rat, Wide>
         Op::Sub => left.minus(right),
         Op::Mul => left.times(right),
         Op::Div => left.over(right),
-    }
-}
-
-/// The value of the left part joined with what the right part answers.
-pub fn join(op: Op, left: Rat, right: Outcome) -> Outcome
-    ensures { (u v : Option Fraction) (us vs : List Step) → Answers (Outcome.Value left) u us → Answers right v vs → Answers result (both (result_of (operation_of op)) u v) (steps_of_two (operation_of op) u us v vs) }
-{
-    match right {
-        Outcome::Value(right) => operate(op, left, right),
-        Outcome::NoValue => Outcome::NoValue,
-        Outcome::TooWide(wide) => Outcome::TooWide(wide),
     }
 }

@@ -1,11 +1,11 @@
 ghost use Rattle.std.specs.Prelude.{◌↔◌, ◌<◌, ◌≤◌, ℤ, IfOk, IfErr, IsOk, List, Option, Some};
 ghost use Rattle.sg_spec.specs.Fraction.{Fraction};
 ghost use Rattle.sg_spec.specs.Tree.{Tree, neg, power};
-ghost use Rattle.sg_spec.specs.Value.{val, both, folded, how_many, power_of};
-ghost use Rattle.sg_spec.specs.Steps.{Step, steps, steps_of_two, folded_steps, power_steps, result_of, made, AllFit, IsFirstMisfit, multiplication};
+ghost use Rattle.sg_spec.specs.Value.{val, folded, how_many, power_of};
+ghost use Rattle.sg_spec.specs.Steps.{Step, steps, folded_steps, power_steps, result_of, AllFit, IsFirstMisfit};
 ghost use Rattle.sg_expr.specs.Tree.{tree_of};
 ghost use Rattle.sg_num.specs.Value.{fraction};
-ghost use Rattle.sg_value.specs.Answer.{Answers, Evaluates, IsValue, Stands, operation_of, step_of};
+ghost use Rattle.sg_value.specs.Answer.{Answers, AnswersTwo, Evaluates, IsValue, Stands, operation_of, step_of};
 ghost use Rattle.sg_value.specs.Left.{left_operand, left_depth, left_part};
 
 use crate::left::{left_depth, left_part};
@@ -99,7 +99,7 @@ fn evaluate_above(e: &Expr, left: Outcome, n: i64, k: i64) -> Outcome
 #[cycle(evaluate)]
 fn evaluate_right(op: Op, left: Outcome, right: &Expr, n: i64, k: i64) -> Outcome
     ensures { (u : Option Fraction) (us : List Step) → Answers left u us
-        → Answers result (both (result_of (operation_of op)) u (val (tree_of right.now) n k)) (steps_of_two (operation_of op) u us (val (tree_of right.now) n k) (steps (tree_of right.now) n k)) }
+        → AnswersTwo op result u us (val (tree_of right.now) n k) (steps (tree_of right.now) n k) }
 {
     match left {
         Outcome::Value(left) => join(op, left, evaluate(right, n, k)),

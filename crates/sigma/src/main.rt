@@ -8,18 +8,7 @@ use std::env::Env;
 use std::process::ExitCode;
 use std::{env, io};
 
-// The words after the program's name.
-fn words_of<R: Env + AllocGlobal>(rt: &R) -> io::Result<Vec<String>> {
-    let mut words = Vec::new(rt.alloc());
-    let mut args = env::args(rt)?;
-    let _ = args.next();
-    for word in args {
-        words.push(word)?;
-    }
-    Ok(words)
-}
-
-// Want of memory for the words ends with the status 5, and any other refusal of them with 8, which no answer has.
+// Running out of memory for the words ends with the status 5, and any other refusal of them with 8, which no answer has.
 fn main(rt: HostRuntime) -> ExitCode {
     match words_of(&rt) {
         Ok(words) => {
@@ -31,4 +20,15 @@ fn main(rt: HostRuntime) -> ExitCode {
         Err(e) if e.kind() == io::ErrorKind::OutOfMemory => ExitCode::from(5),
         Err(_) => ExitCode::from(8),
     }
+}
+
+// The words after the program's name.
+fn words_of<R: Env + AllocGlobal>(rt: &R) -> io::Result<Vec<String>> {
+    let mut words = Vec::new(rt.alloc());
+    let mut args = env::args(rt)?;
+    let _ = args.next();
+    for word in args {
+        words.push(word)?;
+    }
+    Ok(words)
 }

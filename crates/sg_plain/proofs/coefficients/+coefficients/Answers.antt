@@ -31,19 +31,19 @@ returns-in_ok-all-in-Neg-clause-value t c = λ x. rw c.in-Neg.is
 pub returns-in_ok-all-in-Mul-clause-value : goal.returns-in_ok-all-in-Mul-clause-value
 returns-in_ok-all-in-Mul-clause-value t c = λ x. rw c.in-Mul.is
     (c.in_ok-all-in-Mul.ensures.value x
-    ∙ ap₂ (λ p q. value_at p x *ᵛ value_at q x) c.as_slice-in-Mul.ensures c.as_slice-in-Mul-2.ensures
+    ∙ ap₂ ◌*ᵛ◌ (c.trimmed.ensures x ∙ ap (λ p. value_at p x) c.as_slice-in-Mul.ensures) (c.trimmed-in-Mul.ensures x ∙ ap (λ p. value_at p x) c.as_slice-in-Mul-2.ensures)
     ∙ ap₂ ◌*ᵛ◌ (rw c.deref-in-Mul.ensures at (c.in_ok-p-in-Mul.ensures.value x)) (rw c.deref-in-Mul-2.ensures at (c.in_ok-q-in-Mul.ensures.value x)))
 
-pub returns-then-e-eq0-clause-value : goal.returns-then-e-eq0-clause-value
-returns-then-e-eq0-clause-value t c = λ x. rw (c.in-Pow.is, c.if-e-eq0.true) (c.in_ok-unit-in-Pow.ensures x)
+pub returns-then-n-eq0-clause-value : goal.returns-then-n-eq0-clause-value
+returns-then-n-eq0-clause-value t c = λ x. rw (c.in-Pow.is, c.if-n-eq0.true) (c.in_ok-unit-in-Pow.ensures x)
 
 pub returns-then-is_variable-clause-value : goal.returns-then-is_variable-clause-value
 returns-then-is_variable-clause-value t c = λ x.
     let lent : tree_of c.deref-in-Pow.result.now ≡ here = search rules in
     let variable : tree_of c.in-Pow.a.value ≡ here = rw c.deref-in-Pow.ensures at lent in
-    rw c.in-Pow.is (c.in_ok-term-in-Pow.ensures x ∙ ap (λ (u : Tree). pow (ValueR 0) (plain_value u x) c.in-Pow.e) (sym variable))
+    rw c.in-Pow.is (c.in_ok-term-in-Pow.ensures x ∙ ap (λ (u : Tree). pow (ValueR 0) (plain_value u x) c.in-Pow.n) (sym variable))
 
 pub returns-in_ok-all-in-Pow-clause-value : goal.returns-in_ok-all-in-Pow-clause-value
 returns-in_ok-all-in-Pow-clause-value t c = λ x. rw c.in-Pow.is
-    (c.in_ok-all-in-Pow.ensures.value x ∙ ap (λ p. pow (ValueR 0) (value_at p x) c.in-Pow.e) c.as_slice-in-Pow.ensures
-    ∙ ap (λ (v : Value 0). pow (ValueR 0) v c.in-Pow.e) (rw c.deref-in-Pow-2.ensures at (c.in_ok-p-in-Pow.ensures.value x)))
+    (c.in_ok-all-in-Pow.ensures.value x ∙ ap (λ (v : Value 0). pow (ValueR 0) v c.in-Pow.n) (c.trimmed-in-Pow.ensures x ∙ ap (λ p. value_at p x) c.as_slice-in-Pow.ensures)
+    ∙ ap (λ (v : Value 0). pow (ValueR 0) v c.in-Pow.n) (rw c.deref-in-Pow-2.ensures at (c.in_ok-p-in-Pow.ensures.value x)))

@@ -19,5 +19,5 @@ decreases-add_multiple-loop-left l = nodes (tree_of l.left)
 -- what is added so far and what is left are the whole
 abbrev pub invariant-add_multiple-loop-left : goal.invariant-add_multiple-loop-left
 invariant-add_multiple-loop-left l =
-    ((x : Value 0) → value_at l.sum.items x +ᵛ number l.c *ᵛ plain_value (tree_of l.left) x ≡ value_at l.fn.sum.items x +ᵛ number l.fn.c *ᵛ plain_value (tree_of l.fn.e) x)
+    ((x : Value 0) → value_at l.total.items x +ᵛ number l.c *ᵛ plain_value (tree_of l.left) x ≡ value_at l.fn.total.items x +ᵛ number l.fn.c *ᵛ plain_value (tree_of l.fn.e) x)
     × IsPlain (tree_of l.left) × (nodes (tree_of l.left) ≤ nodes (tree_of l.fn.e))

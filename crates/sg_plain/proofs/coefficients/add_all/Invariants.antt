@@ -8,4 +8,4 @@ use Rattle.sg_plain.proofs.coefficients.add_all.Given as goal
 
 abbrev pub invariant-loop-i : goal.invariant-loop-i
 invariant-loop-i l =
-    (x : Value 0) → value_at l.sum.items x +ᵛ number l.c *ᵛ (pow (ValueR 0) x l.i *ᵛ value_at (drop l.i l.p) x) ≡ value_at l.fn.sum.items x +ᵛ number l.c *ᵛ value_at l.p x
+    (x : Value 0) → value_at l.total.items x +ᵛ number l.c *ᵛ (pow (ValueR 0) x l.i *ᵛ value_at (drop l.i l.p) x) ≡ value_at l.fn.total.items x +ᵛ number l.c *ᵛ value_at l.p x

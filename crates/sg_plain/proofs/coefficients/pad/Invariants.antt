@@ -5,6 +5,6 @@ use Rattle.sg_plain.proofs.coefficients.pad.Given as goal
 
 abbrev pub invariant-loop-place : goal.invariant-loop-place
 invariant-loop-place l = record {
-  value : (x : Value 0) → value_at l.sum.items x ≡ value_at l.fn.sum.items x;
-  size : length l.sum.items ≡ l.place;
+  value : (x : Value 0) → value_at l.total.items x ≡ value_at l.fn.total.items x;
+  size : length l.total.items ≡ l._place;
 }

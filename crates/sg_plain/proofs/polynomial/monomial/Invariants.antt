@@ -6,5 +6,5 @@ use Rattle.sg_plain.proofs.polynomial.monomial.Given as goal
 abbrev pub invariant-loop-below : goal.invariant-loop-below
 invariant-loop-below l = record {
   value : (x : Value 0) → value_at l.result x ≡ zero_value;
-  size : length l.result ≡ l.below;
+  size : length l.result ≡ l._below;
 }

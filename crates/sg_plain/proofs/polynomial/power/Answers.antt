@@ -6,9 +6,9 @@ use Rattle.sg_plain.proofs.Lists.{power-next}
 use Rattle.sg_plain.proofs.polynomial.power.Goals as goal
 
 pub loop-done-preserved : goal.loop-done-preserved
-loop-done-preserved c = λ x. power-next c.args.p.now c.loop-done.result c.as_slice.result.now c.in_ok-result-2.result x c.loop-done.done (c.loop-done.invariant x) c.as_slice.ensures (c.in_ok-result-2.ensures.value x)
+loop-done-preserved c = λ x. power-next c.args.p.now c.loop-done.result c.as_slice.result.now c.in_ok-result-2.result x c.loop-done._done (c.loop-done.invariant x) c.as_slice.ensures (c.in_ok-result-2.ensures.value x)
 
 pub returns-clause-value : goal.returns-clause-value
 returns-clause-value c =
-    let e : c.loop-done.done ≡ c.args.e = omega arith in
+    let e : c.loop-done._done ≡ c.args.e = omega arith in
     λ x. c.loop-done.invariant x ∙ ap (λ (n : ℕ). pow (ValueR 0) (value_at c.args.p.now x) n) e

@@ -6,4 +6,4 @@ use Rattle.sg_plain.specs.Evaluation.{value_at}
 use Rattle.sg_plain.proofs.polynomial.power.Given as goal
 
 abbrev pub invariant-loop-done : goal.invariant-loop-done
-invariant-loop-done l = (x : Value 0) → value_at l.result x ≡ pow (ValueR 0) (value_at l.p x) l.done
+invariant-loop-done l = (x : Value 0) → value_at l.result x ≡ pow (ValueR 0) (value_at l.p x) l._done

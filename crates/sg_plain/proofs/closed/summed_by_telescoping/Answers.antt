@@ -1,4 +1,7 @@
-use Rattle.std.proofs.Common.{FitsSigned, pos, ◌-ℤ◌, unsigned_abs, sym, ap, ◌∙◌, rules}
+use Rattle.std.proofs.Common.{FitsSigned, ℤ, pos, ◌-ℤ◌, unsigned_abs, refl, sym, ap, subst, ◌∙◌, rules}
+use Rattle.sg_algebra.proofs.Value.{Value}
+use Rattle.sg_spec.specs.Value.{val}
+use Rattle.sg_values.proofs.Worth.{Worth}
 use Rattle.std.proofs.lemmas.Int.{to_z-of_z}
 use Rattle.std.specs.Int.{w128, w64}
 use Rattle.sg_expr.specs.Tree.{tree_of}
@@ -6,14 +9,17 @@ use Rattle.sg_algebra.proofs.Rational.{whole_value}
 use Rattle.sg_spec.specs.Plain.{canonical}
 use Rattle.sg_plain.specs.Evaluation.{value_at}
 use Rattle.sg_plain.proofs.Closing.{closed-canonical, form-is}
-use Rattle.sg_plain.proofs.closed.telescoped.Goals as goal
+use Rattle.sg_plain.proofs.closed.summed_by_telescoping.Goals as goal
 
 pub returns-clause-closed : goal.returns-clause-closed
 returns-clause-closed c =
     let fits : FitsSigned w128 c.in_ok-all.all.denominator = search rules in
     let fits-a : FitsSigned w64 c.args.a = search rules in
-    closed-canonical (tree_of c.args.f.now) (tree_of c.in_ok-h.h) c.in_ok-p.p.items c.in_ok-q.q c.as_slice.result.now c.as_slice-2.result.now c.in_ok-all.all.coefficients c.as_slice-3.result.now c.in_ok-all.all.denominator c.args.a
-    c.requires c.in_ok-p.ensures.value c.as_slice.ensures.value c.in_ok-q.ensures.step
+    let worth : (k : ℤ) → Worth (val (tree_of c.args.f.now) (pos 0) k) (value_at c.trimmed.result.now (whole_value 0 k)) = λ k.
+    subst (λ (v : Value 0). Worth (val (tree_of c.args.f.now) (pos 0) k) v)
+    (sym (c.trimmed.ensures (whole_value 0 k) ∙ ap (λ p. value_at p (whole_value 0 k)) c.as_slice.ensures.value)) (c.in_ok-p.ensures.value k) in
+    closed-canonical (tree_of c.args.f.now) (tree_of c.in_ok-h.h) c.trimmed.result.now c.in_ok-q.q c.trimmed.result.now c.as_slice-2.result.now c.in_ok-all.all.coefficients c.as_slice-3.result.now c.in_ok-all.all.denominator c.args.a
+    c.requires worth refl c.in_ok-q.ensures.step
     (ap (λ z. value_at c.in_ok-q.q (whole_value 0 (z -ℤ pos 1))) (sym (to_z-of_z w64 c.args.a fits-a)) ∙ c.in_ok-q.ensures.start) c.as_slice-2.ensures c.in_ok-all.ensures.common c.as_slice-3.ensures
     (c.in_ok-h.ensures.tree ∙ ap (λ z. canonical c.as_slice-3.result.now (unsigned_abs z)) (to_z-of_z w128 c.in_ok-all.all.denominator fits))
 

@@ -1,11 +1,14 @@
 #!/usr/bin/env python3
-"""answers.py PROGRAM: runs the built program on the known answers of answers.txt and on the runs that the documents show.
+"""answers.py PROGRAM [--stack KIB]: runs the built program on the known answers of answers.txt and on the runs that the documents show.
 
 Each answer is a name, the words after `sigma` as a shell reads them, the lines of standard output, and the exit status;
 {text*n} in the words stands for n times the text. Nothing may go to standard error. A run that README.md or a document
-shows is a line `$ sigma ..` and the lines below it. Prints what differs and the counts; ends with 1 where something differs.
+shows is a line `$ sigma ..` and the lines below it. With --stack the program has that much stack. Prints what differs and the
+counts; ends with 1 where something differs.
 """
+import argparse
 import re
+import resource
 import shlex
 import subprocess
 import sys
@@ -44,8 +47,14 @@ def shown(path):
         yield f"{path.relative_to(ROOT)}:{at + 1}", words_of(line.removeprefix("    $ sigma")), below, None
 
 
-def differs(program, words, lines, status):
-    run = subprocess.run([program] + words, stdin=subprocess.DEVNULL, capture_output=True, text=True, timeout=120)
+def differs(program, words, lines, status, stack):
+    def limit():
+        if stack:
+            resource.setrlimit(resource.RLIMIT_STACK, (stack << 10, stack << 10))
+
+    run = subprocess.run(
+        [program] + words, stdin=subprocess.DEVNULL, capture_output=True, text=True, timeout=120, preexec_fn=limit
+    )
     wanted = "".join(line + "\n" for line in lines)
     if run.stdout != wanted:
         return f"wrote {run.stdout[:200]!r}, wanted {wanted[:200]!r}"
@@ -57,13 +66,16 @@ def differs(program, words, lines, status):
 
 
 def main():
-    program = str(Path(sys.argv[1]).resolve())
+    wants = argparse.ArgumentParser()
+    wants.add_argument("program", type=Path)
+    wants.add_argument("--stack", type=int)
+    given = wants.parse_args()
     answers = list(known(HERE / "answers.txt"))
     for path in [ROOT / "README.md", *sorted(ROOT.glob("docs/**/*.md"))]:
         answers += shown(path)
     failed = 0
     for name, words, lines, status in answers:
-        fault = differs(program, words, lines, status)
+        fault = differs(str(given.program.resolve()), words, lines, status, given.stack)
         if fault:
             failed += 1
             print(f"{name}: {fault}")

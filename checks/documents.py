@@ -1,10 +1,9 @@
 #!/usr/bin/env python3
-"""documents.py: what the documents quote and count is what stands in the files.
+"""documents.py [--table | --write]: what the documents quote and count is what stands in the files.
 
 A quotation is an indented block below a line that ends with the name of a file and a colon, as "crates/x/specs/Y.antt:";
-its lines stand in that file, one after the other, and a line ".." leaves some out. A table whose head has the columns
-`file` and `lines` gives lengths of files under crates/. The table of docs/theorem.md has just the files that hold the
-definitions which the clause of `sigma` comes down to: with --table they are printed as that table wants them.
+its lines stand in that file, one after the other, and a line ".." leaves some out. The table of docs/theorem.md has just the
+files that hold the definitions which the clause of `sigma` comes down to: --table prints it, and --write puts it in.
 """
 import re
 import sys
@@ -152,9 +151,20 @@ def table():
     ]
 
 
+def write():
+    """Puts the table into the document, in place of the one there."""
+    lines = THEOREM.read_text().splitlines()
+    head = next(at for at, line in enumerate(lines) if line.startswith("| file | lines |")) + 2
+    end = next(at for at, line in enumerate(lines) if at >= head and not line.startswith("|"))
+    THEOREM.write_text("\n".join(lines[:head] + table() + lines[end:]) + "\n")
+
+
 def main():
     if "--table" in sys.argv:
         print("\n".join(table()))
+        return 0
+    if "--write" in sys.argv:
+        write()
         return 0
     faults, count = [], 0
     for path in [ROOT / "README.md", *sorted(ROOT.glob("docs/**/*.md"))]:
@@ -163,9 +173,8 @@ def main():
             fault = misquoted(file, block)
             if fault:
                 faults.append(f"{path.relative_to(ROOT)}:{at}: {file.relative_to(ROOT)}: {fault}")
-    if THEOREM.is_file():
-        text = THEOREM.read_text()
-        faults += [f"docs/theorem.md: the table of files wants the row {row}" for row in table() if row not in text]
+    rows = [line for line in THEOREM.read_text().splitlines() if line.startswith(("| sg_", "| all |"))]
+    faults += [f"docs/theorem.md: the table of files has or lacks {row}" for row in sorted(set(rows) ^ set(table()))]
     for fault in faults:
         print(fault)
     print(f"documents: {count} quotations, {len(faults)} faults")

@@ -1,22 +1,22 @@
 -- What a sink holds after an answer was sent, whole or in part.
---   tells-line      a line that was appended is told
---   sent-answer     so the call answered with the status of this line
---   fault-answer    first bytes of an answer's text are first bytes of an answer
-use Rattle.std.proofs.Common.{◌≡◌, ℕ, ◌+◌, List, ◌++◌, take, drop, Option, Some, None, ap, sym, ◌∙◌, subst, append_assoc, length, ◌-◌, length-drop}
+--   sent-answer     an answer that was appended
+--   fault-answer    first bytes of an answer, and then a fault
+use Rattle.std.proofs.Common.{◌≡◌, ℕ, ◌+◌, List, ◌++◌, take, drop, Option, Some, None, refl, inl, inr, ap, sym, ◌∙◌, subst, append_assoc, length, ◌-◌, length-drop}
 use Rattle.std.proofs.Math.Seq.{take-add, take-length}
 use Rattle.std.proofs.lemmas.List.{take-append-drop}
-use Rattle.sg_io.specs.Bytes.{Appends}
-use Rattle.sg_top.specs.Answer.{IsAnswer, Tells, IsFrontOf, Answers}
+use Rattle.sg_io.specs.Bytes.{Appends, Rose}
+use Rattle.sg_top.specs.Answer.{Input, IsAnswer, Tells, IsFrontOf, Answers}
 use Rattle.sg_top.specs.declared.status.Status.{Status}
-use Rattle.sg_top.specs.declared.status.Status.TheVariants.{Done, No, Usage, Refused, Wide, Memory, ReadFault, WriteFault}
+use Rattle.sg_top.specs.declared.status.Status.TheVariants.{WriteFault}
 
-pub fault-answer : (words : List (List ℕ)) (status : Status) (text : List ℕ) (old new : Option (List ℕ)) → IsAnswer words status text
-    → Tells (IsFrontOf (λ whole. whole ≡ text)) old new → Tells (IsFrontOf (λ whole. (s : Status) × IsAnswer words s whole)) old new
-fault-answer words status text (Some old) (Some new) answer (bytes, e, (rest, whole)) =
-    (bytes, e, (rest, (status, subst (λ (t : List ℕ). IsAnswer words status t) (sym whole) answer)))
-fault-answer words status text (Some old) None answer t = absurd t
-fault-answer words status text None (Some new) answer t = absurd t
-fault-answer words status text None None answer t = tt
+fault-front : (input : Input) (words : List (List ℕ)) (status : Status) (text : List ℕ) (old new : Option (List ℕ)) → IsAnswer input words status text
+    → Tells (IsFrontOf (λ whole. whole ≡ text)) old new → Tells (IsFrontOf (λ whole. (s : Status) × IsAnswer input words s whole)) old new
+fault-front input words status text (Some old) (Some new) answer (bytes, e, (rest, whole)) =
+    (bytes, e, (rest, (status, subst (λ (t : List ℕ). IsAnswer input words status t) (sym whole) answer)))
+fault-front input words status text (Some old) None answer t = absurd t
+fault-front input words status text None (Some new) answer t = absurd t
+fault-front input words status text None None answer (bytes, (rest, whole)) =
+    (bytes, (rest, (status, subst (λ (t : List ℕ). IsAnswer input words status t) (sym whole) answer)))
 
 -- two pieces after one another are one
 pub appends-more : (old mid new : Option (List ℕ)) (text : List ℕ) (n m : ℕ) → Appends old mid (take n text) → Appends mid new (take m (drop n text)) → Appends old new (take (n + m) text)
@@ -31,7 +31,7 @@ pub front-of : (old new : Option (List ℕ)) (text : List ℕ) (n : ℕ) → App
 front-of (Some old) (Some new) text n h = (take n text, h, (drop n text, take-append-drop n text))
 front-of (Some old) None text n h = absurd h
 front-of None (Some new) text n h = absurd h
-front-of None None text n h = tt
+front-of None None text n h = (take n text, (drop n text, take-append-drop n text))
 
 -- what is left from a place on, whole
 pub take-rest : (n : ℕ) (text : List ℕ) → take (length text - n) (drop n text) ≡ drop n text
@@ -41,15 +41,12 @@ tells-line : (P : List ℕ → Type 0) (old new : Option (List ℕ)) (line : Lis
 tells-line P (Some old) (Some new) line p h = (line, h, p)
 tells-line P (Some old) None line p h = absurd h
 tells-line P None (Some new) line p h = absurd h
-tells-line P None None line p h = tt
+tells-line P None None line p h = (line, p)
 
-pub sent-answer : (words : List (List ℕ)) (status : Status) (line : List ℕ) (old new : Option (List ℕ)) (before after : ℕ) → IsAnswer words status line → Appends old new line
-    → Answers words status old new before after
-sent-answer words Done line old new before after p h = tells-line (IsAnswer words Done) old new line p h
-sent-answer words No line old new before after p h = tells-line (IsAnswer words No) old new line p h
-sent-answer words Usage line old new before after p h = tells-line (IsAnswer words Usage) old new line p h
-sent-answer words Refused line old new before after p h = tells-line (IsAnswer words Refused) old new line p h
-sent-answer words Wide line old new before after p h = tells-line (IsAnswer words Wide) old new line p h
-sent-answer words Memory line old new before after p h = tells-line (IsAnswer words Memory) old new line p h
-sent-answer words ReadFault line old new before after p h = absurd p
-sent-answer words WriteFault line old new before after p h = absurd p
+pub sent-answer : (input : Input) (words : List (List ℕ)) (status : Status) (line : List ℕ) (old new : Option (List ℕ)) (before after : ℕ) → IsAnswer input words status line → Appends old new line
+    → Answers input words status old new before after
+sent-answer input words status line old new before after p h = inr (tells-line (IsAnswer input words status) old new line p h)
+
+pub fault-answer : (input : Input) (words : List (List ℕ)) (status : Status) (line : List ℕ) (old new : Option (List ℕ)) (before after : ℕ) → IsAnswer input words status line
+    → Tells (IsFrontOf (λ whole. whole ≡ line)) old new → Rose before after → Answers input words WriteFault old new before after
+fault-answer input words status line old new before after answer part rose = inl (refl, rose, fault-front input words status line old new answer part)

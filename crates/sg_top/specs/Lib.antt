@@ -1,5 +1,7 @@
 pub mod Code
-pub mod Words
-pub mod Texts
+pub mod Lines
+pub mod Stages
+pub mod Refusals
+pub mod Output
 pub mod Answer
 pub mod Taking

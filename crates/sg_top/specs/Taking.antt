@@ -1,32 +1,53 @@
--- What comes of the text of a command.
---   IsEvaluated  the line of a value, or of no value
---   IsStopped    the line of a step that doesn't fit
---   IsOutcome    its expression, within the bounds and the counted limits; or the line of its refusal
-use Rattle.std.specs.Prelude.{◌≡◌, List, ℕ, [], ◌∷◌, ◌++◌, ◌⊎◌, Option, Some, None, codes}
+-- What comes of the texts of a command, step by step.
+--   IsReadAs       their expressions; or the line of the first text that isn't read
+--   IsOutcome      their expressions, which keep the counted limits; or the line of a refusal
+--   IsStopped      the reply of a step that doesn't fit
+--   IsValueLine    the reply of a value, or of no value
+--   IsStepOf       the line of the first step of an evaluation that doesn't fit
+--   IsEvaluated    the reply of an evaluation of an expression for a parameter and a variable
+use Rattle.std.specs.Prelude.{◌≡◌, ℕ, List, [], ◌∷◌, ◌++◌, map, ℤ, Option, Some, None, ◌⊎◌, codes}
+use Rattle.sg_spec.specs.Tree.{Tree}
+use Rattle.sg_spec.specs.Steps.{steps, IsFirstMisfit}
+use Rattle.sg_spec.specs.Limits.{counted}
 use Rattle.sg_num.specs.Value.{fraction}
-use Rattle.sg_num.specs.declared.rat.Rat.{Rat}
-use Rattle.sg_text.specs.RationalText.{rational_text}
-use Rattle.sg_top.specs.declared.status.Status.{Status}
-use Rattle.sg_top.specs.declared.status.Status.TheVariants.{Done, No, Wide as WideStatus}
 use Rattle.sg_num.specs.Stopped.{IsTooWide}
-use Rattle.sg_num.specs.declared.step.Wide.{Wide}
-use Rattle.sg_top.specs.Texts.{wide_line}
+use Rattle.sg_num.specs.declared.rat.Rat.{Rat}
+use Rattle.sg_num.specs.declared.step.Wide.{Wide as WideStep}
+use Rattle.sg_text.specs.RationalText.{rational_text}
 use Rattle.sg_expr.specs.Tree.{tree_of}
-use Rattle.sg_expr.specs.declared.tree.Expr.{Expr}
-use Rattle.sg_top.specs.Answer.{IsTaken, IsReadingRefusal, IsCountRefusal}
+use Rattle.sg_value.specs.Answer.{step_of}
+use Rattle.sg_words.specs.declared.asked.Command.{Command}
+use Rattle.sg_top.specs.Lines.{wide_line}
+use Rattle.sg_top.specs.Stages.{AreRead}
+use Rattle.sg_top.specs.Refusals.{IsTextRefusal, IsCountRefusal}
+use Rattle.sg_top.specs.Output.{IsValueOutput}
+use Rattle.sg_top.specs.declared.status.Status.{Status}
+use Rattle.sg_top.specs.declared.status.Status.TheVariants.{Done, No, Wide}
 use Rattle.sg_top.specs.declared.taken.Taken.{Taken}
 use Rattle.sg_top.specs.declared.taken.Taken.TheVariants.{Items, Line}
 
-abbrev pub IsOutcome : List ℕ → List ℕ → Taken → Type 0
-IsOutcome letters text (Items es) = (e : Expr) × (es ≡ e ∷ []) × IsTaken letters text (tree_of e)
-IsOutcome letters text (Line line) = IsReadingRefusal letters text line.items ⊎ IsCountRefusal letters text line.items
+abbrev pub IsReadAs : Command → List (List ℕ) → Taken → Type 0
+IsReadAs c texts (Items es) = AreRead c texts (map tree_of es)
+IsReadAs c texts (Line line) = IsTextRefusal c texts line.items
 
-abbrev pub IsEvaluated : Option Rat → Status → List ℕ → Type 0
-IsEvaluated (Some r) status line = (status ≡ Done) × (line ≡ rational_text (fraction r) ++ codes "\n")
-IsEvaluated None status line = (status ≡ No) × (line ≡ codes "no value\n")
+abbrev pub IsOutcome : Command → List (List ℕ) → Taken → Type 0
+IsOutcome c texts (Items es) = AreRead c texts (map tree_of es) × (counted (map tree_of es) ≡ None)
+IsOutcome c texts (Line line) = IsTextRefusal c texts line.items ⊎ ((es : List Tree) × AreRead c texts es × IsCountRefusal es line.items)
 
 pub record IsStopped (status : Status) (line : List ℕ) : Type 0 where
-  pub wide : status ≡ WideStatus
-  pub step : Wide
+  pub wide : status ≡ Wide
+  pub step : WideStep
   pub too_wide : IsTooWide step
   pub is : line ≡ wide_line step
+
+abbrev pub IsValueLine : Option Rat → Status → List ℕ → Type 0
+IsValueLine (Some r) status line = (status ≡ Done) × (line ≡ rational_text (fraction r) ++ codes "\n")
+IsValueLine None status line = (status ≡ No) × (line ≡ codes "no value\n")
+
+pub record IsStepOf (e : Tree) (n k : ℤ) (line : List ℕ) : Type 0 where
+  pub step : WideStep
+  pub first : IsFirstMisfit (steps e n k) (step_of step)
+  pub is : line ≡ wide_line step
+
+abbrev pub IsEvaluated : Tree → ℤ → ℤ → Status → List ℕ → Type 0
+IsEvaluated e n k status line = ((status ≡ Wide) × IsStepOf e n k line) ⊎ IsValueOutput n k (e ∷ []) status line

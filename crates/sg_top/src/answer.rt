@@ -1,138 +1,65 @@
-ghost use Rattle.std.specs.Prelude.{◌≡◌, ◌∷◌, [], IfOk, codes, map, string_bytes};
-ghost use Rattle.sg_top.specs.Answer.{IsAnswer};
+ghost use Rattle.std.specs.Prelude.{◌≡◌, IfOk, length, map, string_bytes};
+ghost use Rattle.sg_expr.specs.Tree.{tree_of};
+ghost use Rattle.sg_top.specs.Answer.{IsReply, IsCountedReply, Input, IsAnswer};
 
 use crate::Status;
-use crate::reply::{Reply, line};
+use crate::reply::Reply;
 use crate::sums::sum_reply;
+use crate::taken::{Taken, take};
 use crate::values::value_reply;
-use crate::words::{is_sum, is_value, number_of};
+use sg_expr::Expr;
+use sg_num::Row;
+use sg_words::{Command, command_of};
 use std::alloc::{AllocError, Global};
-
-// The answer to words that are no command.
-fn usage(alloc: Global) -> Result<Reply, AllocError>
-    ensures text { IfOk result (λ r. r.text.items ≡ codes "usage\n") }
-    ensures status { IfOk result (λ r. r.status ≡ Status.Usage) }
-{
-    let reply = line(alloc, b"usage\n", Status::Usage)?;
-    Ok(reply)
-}
-
-// The answer to `sum`, a word and a text.
-fn sum_command(alloc: Global, limit: &str, text: &str) -> Result<Reply, AllocError>
-    ensures { IfOk result (λ r. IsAnswer (codes "sum" ∷ (limit.now ∷ (text.now ∷ []))) r.status r.text.items) }
-{
-    match number_of(limit, -1000, 1000) {
-        None => {
-            let reply = usage(alloc)?;
-            Ok(reply)
-        }
-        Some(a) => {
-            let reply = sum_reply(alloc, text, a)?;
-            Ok(reply)
-        }
-    }
-}
-
-// The answer to `value`, a word and a text.
-fn value_command(alloc: Global, point: &str, text: &str) -> Result<Reply, AllocError>
-    ensures { IfOk result (λ r. IsAnswer (codes "value" ∷ (point.now ∷ (text.now ∷ []))) r.status r.text.items) }
-{
-    match number_of(point, -100_000, 100_000) {
-        None => {
-            let reply = usage(alloc)?;
-            Ok(reply)
-        }
-        Some(k) => {
-            let reply = value_reply(alloc, text, b"k", 0, k)?;
-            Ok(reply)
-        }
-    }
-}
-
-// The answer to `value`, two words and a text.
-fn parameter_command(
-    alloc: Global,
-    point: &str,
-    parameter: &str,
-    text: &str,
-) -> Result<Reply, AllocError>
-    ensures { IfOk result (λ r. IsAnswer (codes "value" ∷ (point.now ∷ (parameter.now ∷ (text.now ∷ [])))) r.status r.text.items) }
-{
-    match number_of(point, -100_000, 100_000) {
-        None => {
-            let reply = usage(alloc)?;
-            Ok(reply)
-        }
-        Some(k) => match number_of(parameter, 0, 100_000) {
-            None => {
-                let reply = usage(alloc)?;
-                Ok(reply)
-            }
-            Some(n) => {
-                let reply = value_reply(alloc, text, b"kn", n, k)?;
-                Ok(reply)
-            }
-        },
-    }
-}
-
-// The answer to three words.
-fn three(alloc: Global, name: &str, number: &str, text: &str) -> Result<Reply, AllocError>
-    ensures { IfOk result (λ r. IsAnswer (name.now ∷ (number.now ∷ (text.now ∷ []))) r.status r.text.items) }
-{
-    if is_sum(name) {
-        let reply = sum_command(alloc, number, text)?;
-        return Ok(reply);
-    }
-    if is_value(name) {
-        let reply = value_command(alloc, number, text)?;
-        return Ok(reply);
-    }
-    let reply = usage(alloc)?;
-    Ok(reply)
-}
-
-// The answer to four words.
-fn four(
-    alloc: Global,
-    name: &str,
-    point: &str,
-    parameter: &str,
-    text: &str,
-) -> Result<Reply, AllocError>
-    ensures { IfOk result (λ r. IsAnswer (name.now ∷ (point.now ∷ (parameter.now ∷ (text.now ∷ [])))) r.status r.text.items) }
-{
-    if is_value(name) {
-        let reply = parameter_command(alloc, point, parameter, text)?;
-        return Ok(reply);
-    }
-    let reply = usage(alloc)?;
-    Ok(reply)
-}
 
 /// The answer to the words. The error is want of memory.
 pub fn reply_to(alloc: Global, words: &[String]) -> Result<Reply, AllocError>
-    ensures { IfOk result (λ r. IsAnswer (map string_bytes words.now) r.status r.text.items) }
+    ensures { IfOk result (λ r. (input : Input) → IsAnswer input (map string_bytes words.now) r.status r.text.items) }
 {
-    if words.len() == 3 {
-        let reply = three(
-            alloc,
-            words[0].as_str(),
-            words[1].as_str(),
-            words[2].as_str(),
-        )?;
-        return Ok(reply);
+    match command_of(words) {
+        Some((command, texts)) => {
+            let reply = command_reply(alloc, command, texts)?;
+            Ok(reply)
+        }
+        None => {
+            let reply = Reply::fixed(alloc, b"usage\n", Status::Usage)?;
+            Ok(reply)
+        }
     }
-    if words.len() == 4 {
-        let reply = four(
-            alloc,
-            words[0].as_str(),
-            words[1].as_str(),
-            words[2].as_str(),
-            words[3].as_str(),
-        )?;
-        return Ok(reply);
+}
+
+// The answer to a command for its text.
+fn command_reply(alloc: Global, command: Command, texts: &[String]) -> Result<Reply, AllocError>
+    requires { length texts.now ≡ 1 }
+    ensures { IfOk result (λ r. IsReply command (map string_bytes texts.now) r.status r.text.items) }
+{
+    match take(alloc, command, texts)? {
+        Taken::Line(text) => Ok(Reply::refused(text)),
+        Taken::Items(items) => {
+            let reply = output(alloc, command, &items)?;
+            Ok(reply)
+        }
     }
-    let reply = usage(alloc)?;
-    Ok(reply)
+}
+
+// The answer for an expression that keeps the counted limits; a line a command.
+fn output(alloc: Global, command: Command, items: &Row<Expr>) -> Result<Reply, AllocError>
+    requires { length items.now ≡ 1 }
+    ensures { IfOk result (λ r. IsCountedReply command (map tree_of items.now) r.status r.text.items) }
+{
+    let e = items.get(0);
+    match command {
+        Command::Sum { lower } => {
+            let reply = sum_reply(alloc, e, lower)?;
+            Ok(reply)
+        }
+        Command::Value { point } => {
+            let reply = value_reply(alloc, e, 0, point)?;
+            Ok(reply)
+        }
+        Command::ValueAtParameter { parameter, point } => {
+            let reply = value_reply(alloc, e, parameter, point)?;
+            Ok(reply)
+        }
+    }
 }

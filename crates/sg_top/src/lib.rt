@@ -10,7 +10,6 @@ mod sums;
 mod taken;
 mod top;
 mod values;
-mod words;
 
 pub use status::Status;
 pub use top::sigma;

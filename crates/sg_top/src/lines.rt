@@ -1,16 +1,15 @@
+//! The lines of answers. The error of each call is want of memory.
 ghost use Rattle.std.specs.Prelude.{◌≡◌, ◌++◌, IfOk, Some, decimal, codes};
 ghost use Rattle.sg_spec.specs.Reading.{Refusal};
 ghost use Rattle.sg_num.specs.Value.{fraction};
 ghost use Rattle.sg_text.specs.RationalText.{rational_text};
 ghost use Rattle.sg_text.specs.Reads.{refusal_of};
-ghost use Rattle.sg_top.specs.Texts.{closed_line, wide_line, op_word, placed_line, refusal_line};
+ghost use Rattle.sg_top.specs.Lines.{closed_line, wide_line, op_word, placed, item_line, refusal_words};
 
 use itoa::Buffer;
 use sg_num::{Op, Rat, Wide};
 use sg_text::{ReadFault, print_rat};
 use std::alloc::{AllocError, Global};
-
-// The lines of answers. The error of each call is want of memory.
 
 /// `closed <form> from <start>`.
 pub fn closed_text(alloc: Global, form: &[u8], start: i64) -> Result<Vec<u8>, AllocError>
@@ -23,17 +22,6 @@ pub fn closed_text(alloc: Global, form: &[u8], start: i64) -> Result<Vec<u8>, Al
     text.extend_from_slice(buffer.format(start).as_bytes())?;
     text.extend_from_slice(b"\n")?;
     Ok(text)
-}
-
-fn word_of(op: Op) -> &'static [u8]
-    ensures { result.now ≡ op_word op }
-{
-    match op {
-        Op::Add => b"add",
-        Op::Sub => b"sub",
-        Op::Mul => b"mul",
-        Op::Div => b"div",
-    }
 }
 
 /// A fraction, and a line feed.
@@ -62,25 +50,37 @@ pub fn wide_text(alloc: Global, w: Wide) -> Result<Vec<u8>, AllocError>
     Ok(text)
 }
 
-fn placed_text(alloc: Global, kind: &[u8], at: u32) -> Result<Vec<u8>, AllocError>
-    ensures { IfOk result (λ t. t.items ≡ placed_line kind.now at) }
+fn word_of(op: Op) -> &'static [u8]
+    ensures { result.now ≡ op_word op }
+{
+    match op {
+        Op::Add => b"add",
+        Op::Sub => b"sub",
+        Op::Mul => b"mul",
+        Op::Div => b"div",
+    }
+}
+
+/// `refused <what> item <i>`, of the i-th text, counted from 1.
+pub fn item_text(alloc: Global, what: &[u8], item: usize) -> Result<Vec<u8>, AllocError>
+    ensures { IfOk result (λ t. t.items ≡ item_line what.now item) }
 {
     let mut buffer = Buffer::new();
     let mut text = Vec::from_slice(alloc, b"refused ")?;
-    text.extend_from_slice(kind)?;
-    text.extend_from_slice(b" at ")?;
-    text.extend_from_slice(buffer.format(at).as_bytes())?;
-    text.extend_from_slice(b" item 1\n")?;
+    text.extend_from_slice(what)?;
+    text.extend_from_slice(b" item ")?;
+    text.extend_from_slice(buffer.format(item).as_bytes())?;
+    text.extend_from_slice(b"\n")?;
     Ok(text)
 }
 
-/// Why the text isn't read.
+/// Why a text isn't read.
 pub fn refusal_text(alloc: Global, fault: ReadFault) -> Result<Vec<u8>, AllocError>
-    ensures { IfOk result (λ t. (r : Refusal) × (refusal_of fault ≡ Some r) × (t.items ≡ refusal_line r)) }
+    ensures { IfOk result (λ t. (r : Refusal) × (refusal_of fault ≡ Some r) × (t.items ≡ refusal_words r)) }
 {
     match fault {
         ReadFault::Long => {
-            let text = Vec::from_slice(alloc, b"refused long item 1\n")?;
+            let text = Vec::from_slice(alloc, b"long")?;
             Ok(text)
         }
         ReadFault::Deep { at } => {
@@ -109,4 +109,14 @@ pub fn refusal_text(alloc: Global, fault: ReadFault) -> Result<Vec<u8>, AllocErr
         }
         ReadFault::Memory(want) => Err(want),
     }
+}
+
+fn placed_text(alloc: Global, kind: &[u8], at: u32) -> Result<Vec<u8>, AllocError>
+    ensures { IfOk result (λ t. t.items ≡ placed kind.now at) }
+{
+    let mut buffer = Buffer::new();
+    let mut text = Vec::from_slice(alloc, kind)?;
+    text.extend_from_slice(b" at ")?;
+    text.extend_from_slice(buffer.format(at).as_bytes())?;
+    Ok(text)
 }

@@ -1,6 +1,9 @@
 ghost use Rattle.std.specs.Prelude.{◌≡◌, IfOk};
+ghost use Rattle.sg_top.specs.Lines.{wide_line};
 
 use crate::Status;
+use crate::lines::wide_text;
+use sg_num::Wide;
 use std::alloc::{AllocError, Global};
 
 /// The whole text of an answer, and its status.
@@ -10,11 +13,46 @@ pub struct Reply {
     pub status: Status,
 }
 
-/// An answer of fixed bytes. The error is want of memory.
-pub fn line(alloc: Global, text: &[u8], status: Status) -> Result<Reply, AllocError>
-    ensures text { IfOk result (λ r. r.text.items ≡ text.now) }
-    ensures status { IfOk result (λ r. r.status ≡ status) }
-{
-    let text = Vec::from_slice(alloc, text)?;
-    Ok(Reply { text, status })
+// The error of each call is want of memory.
+impl Reply {
+    /// Fixed bytes.
+    pub fn fixed(alloc: Global, text: &[u8], status: Status) -> Result<Reply, AllocError>
+        ensures text { IfOk result (λ r. r.text.items ≡ text.now) }
+        ensures status { IfOk result (λ r. r.status ≡ status) }
+    {
+        let text = Vec::from_slice(alloc, text)?;
+        Ok(Reply { text, status })
+    }
+
+    /// What was asked for.
+    pub fn done(text: Vec<u8>) -> Reply
+        ensures { result ≡ record { text = text; status = Status.Done } }
+    {
+        Reply {
+            text,
+            status: Status::Done,
+        }
+    }
+
+    /// The line of a refusal.
+    pub fn refused(text: Vec<u8>) -> Reply
+        ensures { result ≡ record { text = text; status = Status.Refused } }
+    {
+        Reply {
+            text,
+            status: Status::Refused,
+        }
+    }
+
+    /// The line of a step that doesn't fit.
+    pub fn wide(alloc: Global, step: Wide) -> Result<Reply, AllocError>
+        ensures text { IfOk result (λ r. r.text.items ≡ wide_line step) }
+        ensures status { IfOk result (λ r. r.status ≡ Status.Wide) }
+    {
+        let text = wide_text(alloc, step)?;
+        Ok(Reply {
+            text,
+            status: Status::Wide,
+        })
+    }
 }

@@ -16,7 +16,14 @@ pub fn sigma<S: Source, K: Sink>(
     source: &mut S,
     sink: &mut K,
 ) -> Status
-    ensures answers { Answers (map string_bytes words.now) result (K.contents sink.old) (K.contents sink.new) (K.fault_count sink.old) (K.fault_count sink.new) }
+    ensures answers { Answers
+        (record {
+          left = S.remaining source.old;
+          left_after = S.remaining source.new;
+          faults = S.fault_count source.old;
+          faults_after = S.fault_count source.new;
+        })
+        (map string_bytes words.now) result (K.contents sink.old) (K.contents sink.new) (K.fault_count sink.old) (K.fault_count sink.new) }
     ensures unread { source.new ≡ source.old }
 {
     let _ = &source;

@@ -1,7 +1,7 @@
 use Rattle.std.proofs.Common.{FitsSigned, rules, arith}
 use Rattle.std.specs.Int.{w64}
 use Rattle.std.proofs.lemmas.Int.{to_z-of_z, ints}
-use Rattle.sg_top.proofs.words.number_of.Goals as goal
+use Rattle.sg_words.proofs.number.number_of.Goals as goal
 
 pub returns-in-Ok : goal.returns-in-Ok
 returns-in-Ok c =

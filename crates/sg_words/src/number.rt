@@ -1,5 +1,5 @@
 ghost use Rattle.std.specs.Prelude.{◌≡◌, ◌↔◌, ℤ, MatchOption, IsTrue, codes};
-ghost use Rattle.sg_top.specs.Words.{IsNumberWord};
+ghost use Rattle.sg_words.specs.Words.{IsNumberWord};
 
 /// The number of a number word within a range; None exactly where the word is none.
 pub fn number_of(word: &str, low: i64, high: i64) -> Option<i64>
@@ -12,18 +12,4 @@ pub fn number_of(word: &str, low: i64, high: i64) -> Option<i64>
         Ok(z) if z >= low && z <= high => Some(z),
         _ => None,
     }
-}
-
-/// Whether the word is `sum`.
-pub fn is_sum(word: &str) -> bool
-    ensures { IsTrue result ↔ (word.now ≡ codes "sum") }
-{
-    word == "sum"
-}
-
-/// Whether the word is `value`.
-pub fn is_value(word: &str) -> bool
-    ensures { IsTrue result ↔ (word.now ≡ codes "value") }
-{
-    word == "value"
 }

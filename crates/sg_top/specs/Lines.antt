@@ -1,8 +1,10 @@
 -- The lines of answers.
---   closed_line        `closed <form> from <start>`
---   wide_line          `wide <op> <left> <right>`
---   refusal_line       why the text isn't read: a kind, its place where it has one, and the number of the text
---   count_line         the count that passes its limit
+--   closed_line     `closed <h> from <s>`
+--   wide_line       `wide <op> <left> <right>`
+--   item_line       `refused <what> item <i>`, of the i-th text, counted from 1
+--   placed          a kind of fault and its place
+--   refusal_words   why a text isn't read
+--   count_line      the count that passes its limit
 use Rattle.std.specs.Prelude.{ℕ, List, ◌++◌, ℤ, codes, decimal}
 use Rattle.std.specs.Fmt.{signed_decimal}
 use Rattle.sg_spec.specs.Reading.{Kind, numeral_fault, exponent_fault, unbound, form, Refusal, too_long, too_deep, no_text, faulty}
@@ -14,7 +16,7 @@ use Rattle.sg_num.specs.Value.{fraction}
 use Rattle.sg_text.specs.RationalText.{rational_text}
 
 abbrev pub closed_line : List ℕ → ℤ → List ℕ
-closed_line closed start = codes "closed " ++ closed ++ codes " from " ++ signed_decimal start ++ codes "\n"
+closed_line h start = codes "closed " ++ h ++ codes " from " ++ signed_decimal start ++ codes "\n"
 
 abbrev pub op_word : Op → List ℕ
 op_word Add = codes "add"
@@ -25,24 +27,26 @@ op_word Div = codes "div"
 abbrev pub wide_line : Wide → List ℕ
 wide_line w = codes "wide " ++ op_word w.op ++ codes " " ++ rational_text (fraction w.left) ++ codes " " ++ rational_text (fraction w.right) ++ codes "\n"
 
+abbrev pub item_line : List ℕ → ℕ → List ℕ
+item_line what item = codes "refused " ++ what ++ codes " item " ++ decimal item ++ codes "\n"
+
+abbrev pub placed : List ℕ → ℕ → List ℕ
+placed kind place = kind ++ codes " at " ++ decimal place
+
 abbrev pub kind_word : Kind → List ℕ
 kind_word numeral_fault = codes "numeral"
 kind_word exponent_fault = codes "exponent"
 kind_word unbound = codes "unbound"
 kind_word form = codes "form"
 
-abbrev pub placed_line : List ℕ → ℕ → List ℕ
-placed_line kind place = codes "refused " ++ kind ++ codes " at " ++ decimal place ++ codes " item 1\n"
+abbrev pub refusal_words : Refusal → List ℕ
+refusal_words too_long = codes "long"
+refusal_words (too_deep p) = placed (codes "deep") p
+refusal_words (no_text p) = placed (codes "syntax") p
+refusal_words (faulty f) = placed (kind_word f.kind) f.place
 
-abbrev pub refusal_line : Refusal → List ℕ
-refusal_line too_long = codes "refused long item 1\n"
-refusal_line (too_deep p) = placed_line (codes "deep") p
-refusal_line (no_text p) = placed_line (codes "syntax") p
-refusal_line (faulty f) = placed_line (kind_word f.kind) f.place
-
--- each command has one text, the first
 abbrev pub count_line : CountFault → List ℕ
-count_line (too_many_nodes i) = codes "refused nodes item 1\n"
-count_line (too_steep i) = codes "refused degree item 1\n"
+count_line (too_many_nodes item) = item_line (codes "nodes") item
+count_line (too_steep item) = item_line (codes "degree") item
 count_line too_many_sums = codes "refused sums\n"
 count_line too_many_products = codes "refused products\n"

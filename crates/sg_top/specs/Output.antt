@@ -1,0 +1,76 @@
+-- What an answer says of the expressions of a command's texts, once no refusal touches them.
+--   IsClosedLine      `closed <h> from <s>`: h is a canonical closed form, whose text is the one that is printed for it
+--   IsFractionLine    the value of an expression, in lowest terms
+--   IsNoValueLine     `no value`: it has none
+--   IsDefined         the defined answer; a line a command
+--   IsWideStep        what is known of a step that doesn't fit; a line a command that knows more than this
+--   IsNarrow          no step is wide: a polynomial of degree at most 1 with small coefficients, from a small limit on
+use Rattle.std.specs.Prelude.{◌≡◌, ℕ, ◌≤◌, List, [], ◌∷◌, ◌++◌, ℤ, pos, unsigned_abs, codes, Option, Some, None, ◌⊎◌}
+use Rattle.sg_spec.specs.Fraction.{Fraction}
+use Rattle.sg_spec.specs.Tree.{Tree}
+use Rattle.sg_spec.specs.Value.{val, SameValue}
+use Rattle.sg_spec.specs.Steps.{steps, IsFirstMisfit}
+use Rattle.sg_spec.specs.Reading.{Reads}
+use Rattle.sg_spec.specs.Limits.{degrees}
+use Rattle.sg_spec.specs.Plain.{IsCanonical, weight}
+use Rattle.sg_spec.specs.Closed.{Closed}
+use Rattle.sg_num.specs.Value.{fraction}
+use Rattle.sg_num.specs.Stopped.{IsTooWide}
+use Rattle.sg_num.specs.declared.rat.Rat.{Rat}
+use Rattle.sg_num.specs.declared.step.Wide.{Wide as WideStep}
+use Rattle.sg_text.specs.PrintedText.{printed}
+use Rattle.sg_text.specs.RationalText.{rational_text}
+use Rattle.sg_value.specs.Answer.{step_of}
+use Rattle.sg_words.specs.declared.asked.Command.{Command}
+use Rattle.sg_words.specs.declared.asked.Command.TheVariants.{Sum, Value, ValueAtParameter}
+use Rattle.sg_top.specs.Lines.{closed_line}
+use Rattle.sg_top.specs.declared.status.Status.{Status}
+use Rattle.sg_top.specs.declared.status.Status.TheVariants.{Done, No}
+
+pub record IsClosedLine (a : ℤ) (f : Tree) (others : List Tree) (status : Status) (out : List ℕ) : Type 0 where
+  pub status_is : status ≡ Done
+  pub form : Tree
+  pub first : ℤ
+  pub closed : Closed f others a form first
+  pub canonical : IsCanonical form
+  pub reads_back : Reads (printed (codes "m") form) (codes "m") form
+  pub is : out ≡ closed_line (printed (codes "m") form) first
+
+pub record IsFractionLine (v : Option Fraction) (status : Status) (out : List ℕ) : Type 0 where
+  pub status_is : status ≡ Done
+  pub number : Rat
+  pub is_value : SameValue (Some (fraction number)) v
+  pub is : out ≡ rational_text (fraction number) ++ codes "\n"
+
+pub record IsNoValueLine (v : Option Fraction) (status : Status) (out : List ℕ) : Type 0 where
+  pub status_is : status ≡ No
+  pub none : v ≡ None
+  pub is : out ≡ codes "no value\n"
+
+-- the first text is the summand, and the others lend their sums
+abbrev pub IsSumOutput : ℤ → List Tree → Status → List ℕ → Type 0
+IsSumOutput a [] status out = ⊥
+IsSumOutput a (f ∷ others) status out = IsClosedLine a f others status out
+
+abbrev pub IsValueOutput : ℤ → ℤ → List Tree → Status → List ℕ → Type 0
+IsValueOutput n k (e ∷ []) status out = IsFractionLine (val e n k) status out ⊎ IsNoValueLine (val e n k) status out
+IsValueOutput n k es status out = ⊥
+
+abbrev pub IsDefined : Command → List Tree → Status → List ℕ → Type 0
+IsDefined (Sum a) es status out = IsSumOutput a es status out
+IsDefined (Value k) es status out = IsValueOutput (pos 0) k es status out
+IsDefined (ValueAtParameter n k) es status out = IsValueOutput n k es status out
+
+-- the first step of the evaluation that doesn't fit
+abbrev pub IsValueStep : ℤ → ℤ → List Tree → WideStep → Type 0
+IsValueStep n k (e ∷ []) step = IsFirstMisfit (steps e n k) (step_of step)
+IsValueStep n k es step = ⊥
+
+abbrev pub IsWideStep : Command → List Tree → WideStep → Type 0
+IsWideStep (Value k) es step = IsValueStep (pos 0) k es step
+IsWideStep (ValueAtParameter n k) es step = IsValueStep n k es step
+IsWideStep c es step = IsTooWide step
+
+abbrev pub IsNarrow : Command → List Tree → Type 0
+IsNarrow (Sum a) (f ∷ []) = ((degrees f).variable ≤ 1) × (weight f ≤ 65536) × (unsigned_abs a ≤ 64)
+IsNarrow c es = ⊥

@@ -1,0 +1,36 @@
+-- The refusals, in their order.
+--   IsTextRefusal     the first text that isn't read
+--   IsCountRefusal    the first count that passes its limit
+--   IsLaterRefusal    the first expression that the command doesn't take yet
+use Rattle.std.specs.Prelude.{◌≡◌, ℕ, ◌+◌, List, ◌∷◌, ◌++◌, All, length, Some, codes}
+use Rattle.sg_spec.specs.Tree.{Tree}
+use Rattle.sg_spec.specs.Reading.{Refusal, IsRefused}
+use Rattle.sg_spec.specs.Limits.{CountFault, counted}
+use Rattle.sg_words.specs.declared.asked.Command.{Command}
+use Rattle.sg_top.specs.Lines.{item_line, refusal_words, count_line}
+use Rattle.sg_top.specs.Stages.{input_bounds, letters_of, AreRead, IsTaken}
+
+pub record IsTextRefusal (c : Command) (texts : List (List ℕ)) (out : List ℕ) : Type 0 where
+  pub before : List (List ℕ)
+  pub text : List ℕ
+  pub after : List (List ℕ)
+  pub split : texts ≡ before ++ text ∷ after
+  pub trees : List Tree
+  pub read : AreRead c before trees
+  pub refusal : Refusal
+  pub cause : IsRefused input_bounds (letters_of c) text refusal
+  pub is : out ≡ item_line (refusal_words refusal) (length before + 1)
+
+pub record IsCountRefusal (es : List Tree) (out : List ℕ) : Type 0 where
+  pub fault : CountFault
+  pub cause : counted es ≡ Some fault
+  pub is : out ≡ count_line fault
+
+pub record IsLaterRefusal (c : Command) (es : List Tree) (out : List ℕ) : Type 0 where
+  pub before : List Tree
+  pub expression : Tree
+  pub after : List Tree
+  pub split : es ≡ before ++ expression ∷ after
+  pub taken : All (IsTaken c) before
+  pub not_taken : IsTaken c expression → ⊥
+  pub is : out ≡ item_line (codes "later") (length before + 1)

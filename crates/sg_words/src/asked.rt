@@ -1,0 +1,10 @@
+/// What is asked of the texts of a command.
+#[derive(Clone, Copy, Debug, PartialEq, Eq)]
+pub enum Command {
+    /// The sum of the first text from a lower limit on.
+    Sum { lower: i64 },
+    /// The value of the text at a point.
+    Value { point: i64 },
+    /// The value of the text for a parameter, at a point.
+    ValueAtParameter { parameter: i64, point: i64 },
+}

@@ -4,6 +4,7 @@ ghost use Rattle.sg_algebra.proofs.Rational.{rational_value};
 ghost use Rattle.sg_num.specs.Stopped.{KeepsWideStep};
 ghost use Rattle.sg_num.specs.Value.{fraction};
 ghost use Rattle.sg_num.specs.Probe.{IsProbe};
+ghost use Rattle.sg_num.specs.Laws.{LawsOfValues, laws_of_values};
 
 use crate::rat::Rat;
 use crate::row::Row;
@@ -81,4 +82,13 @@ pub trait Field: Drop {
     fn probe(alloc: Global, list: &Row<Self>) -> Result<Probe, Stop>
         ensures value { IfOk result (λ p. IsProbe vars val list.now p.args p.values) }
         ensures wide { IfErr result KeepsWideStep };
+
+    /// Elements that may be roots of the polynomial with these coefficients, the lowest first: guesses, each to be tried, and a
+    /// root need not be among them.
+    fn linear_roots(alloc: Global, p: &[Self]) -> Result<Row<Self>, Stop>
+        ensures wide { IfErr result KeepsWideStep };
+
+    /// What isn't 0 has, past every bound, whole numbers at which its value isn't 0; there is one value at most at given numbers; and
+    /// sums, differences, products and quotients have the values that they should.
+    ghost values: { LawsOfValues vars } = { laws_of_values vars };
 }

@@ -5,6 +5,7 @@ ghost use Rattle.sg_num.specs.Stopped.{KeepsWideStep, IsStep};
 ghost use Rattle.sg_num.specs.Value.{fraction, number};
 
 use crate::field::{Field, Probe};
+use crate::guess::guessed;
 use crate::rat::Rat;
 use crate::row::Row;
 use crate::step::{Op, Stop};
@@ -99,6 +100,11 @@ impl Field for Rat {
             args: Row::new(alloc),
             values,
         })
+    }
+
+    fn linear_roots(alloc: Global, p: &[Rat]) -> Result<Row<Rat>, Stop> {
+        let r = guessed(alloc, p)?;
+        Ok(r)
     }
 }
 

@@ -1,5 +1,5 @@
-ghost use Rattle.std.specs.List.{remove};
-ghost use Rattle.std.specs.Prelude.{◌≡◌, ◌<◌, [], ◌∷◌, ◌++◌, ◌==◌, length, take, reverse, OnOk, OnErr, slice_index_or};
+ghost use Rattle.std.specs.List.{remove, insert};
+ghost use Rattle.std.specs.Prelude.{◌≡◌, ◌<◌, ◌≤◌, [], ◌∷◌, ◌++◌, ◌==◌, length, take, reverse, OnOk, OnErr, IfSome, IfNone, slice_index_or, slice_set};
 
 use std::alloc::{AllocError, Global};
 use std::marker::Model;
@@ -35,6 +35,41 @@ impl<T: Drop> Row<T> {
     {
         self.items.push(item)?;
         Ok(())
+    }
+
+    /// Moves all items of the other list to the end. The error is want of memory; then both are as they were.
+    pub fn append(&mut self, other: &mut Row<T>) -> Result<(), AllocError>
+        ensures ok { OnOk result ((self.new ≡ self.old ++ other.old) × (other.new ≡ [])) }
+        ensures err { OnErr result ((self.new ≡ self.old) × (other.new ≡ other.old)) }
+    {
+        self.items.append(&mut other.items)
+    }
+
+    /// Puts an item at place `i`, counted from 0, before those from there on. The error is want of memory; then the list is as it
+    /// was.
+    pub fn insert(&mut self, i: usize, item: T) -> Result<(), AllocError>
+        requires { i ≤ length self.old }
+        ensures ok { OnOk result (self.new ≡ insert self.old i item) }
+        ensures err { OnErr result (self.new ≡ self.old) }
+    {
+        self.items.insert(i, item)?;
+        Ok(())
+    }
+
+    /// Replaces the item at place `i`, counted from 0.
+    pub fn set(&mut self, i: usize, item: T)
+        requires { i < length self.old }
+        ensures { self.new ≡ slice_set self.old i item }
+    {
+        self.items[i] = item;
+    }
+
+    /// Takes out the last item; None exactly where there is none.
+    pub fn pop(&mut self) -> Option<T>
+        ensures some { IfSome result (λ x. self.old ≡ self.new ++ x ∷ []) }
+        ensures none { IfNone result ((self.old ≡ []) × (self.new ≡ [])) }
+    {
+        self.items.pop()
     }
 
     /// Takes out the item at place `i`, counted from 0.
@@ -82,6 +117,13 @@ impl<T: Drop> Row<T> {
         &self.items[i]
     }
 
+    /// All items, to be taken one by one, as `for item in list.into_vec()`.
+    pub fn into_vec(self) -> Vec<T>
+        ensures { result.items ≡ self }
+    {
+        self.items
+    }
+
     /// All items, as a slice.
     pub fn as_slice(&self) -> &[T]
         ensures { result.now ≡ self.now }
@@ -101,5 +143,24 @@ mod tests {
         assert!(rt; row.push(1u8).is_ok());
         assert_eq!(rt; row.len(), 1);
         assert_eq!(rt; *row.get(0), 1);
+    }
+
+    #[test]
+    fn moves_items(rt: HostRuntime) {
+        let mut row = Row::new(rt.alloc());
+        let mut more = Row::new(rt.alloc());
+        assert!(rt; row.push(1u8).is_ok() && more.push(3u8).is_ok());
+        assert!(rt; row.append(&mut more).is_ok() && more.is_empty());
+        assert_eq!(rt; row.len(), 2);
+        assert!(rt; row.insert(1, 2).is_ok());
+        assert_eq!(rt; row.as_slice(), [1, 2, 3].as_slice());
+        assert_eq!(rt; row.pop(), Some(3));
+        assert_eq!(rt; row.len(), 2);
+        row.set(0, 7);
+        let mut sum = 0u8;
+        for item in row.into_vec() {
+            sum = sum.wrapping_add(item);
+        }
+        assert_eq!(rt; sum, 9);
     }
 }

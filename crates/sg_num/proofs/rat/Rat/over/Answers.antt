@@ -1,3 +1,4 @@
+use Rattle.sg_num.proofs.Numbers.{number-over}
 use Rattle.sg_num.proofs.Terms.{over-value}
 use Rattle.sg_num.specs.Value.{fraction}
 use Rattle.sg_algebra.proofs.Divisor.{gcd_comm}
@@ -10,3 +11,6 @@ crossed-product-requires-clause-lowest c =
 
 pub returns-in-Some-clause-value : goal.returns-in-Some-clause-value
 returns-in-Some-clause-value c = over-value (fraction c.args.self) (fraction c.args.other) (fraction c.in-Some.r) (let e = c.in-Some.ensures.value in cc)
+
+pub returns-in-Some-clause-as_number : goal.returns-in-Some-clause-as_number
+returns-in-Some-clause-as_number c = number-over c.args.self c.args.other c.in-Some.r c.requires (returns-in-Some-clause-value c)

@@ -5,4 +5,4 @@ use Rattle.sg_algebra.proofs.Rational.{fraction_value-one}
 use Rattle.sg_num.proofs.rational.RatField.one.Goals as goal
 
 pub returns-clause-value : goal.returns-clause-value
-returns-clause-value c = ap (λ (x : Fraction). fraction_value x.num x.den) c.whole.ensures ∙ fraction_value-one
+returns-clause-value c = ap (λ (x : Fraction). fraction_value x.num x.den) c.whole.ensures.value ∙ fraction_value-one

@@ -5,4 +5,4 @@ use Rattle.sg_algebra.proofs.Rational.{fraction_value-zero}
 use Rattle.sg_num.proofs.rational.RatField.zero.Goals as goal
 
 pub returns-clause-value : goal.returns-clause-value
-returns-clause-value c = ap (λ (x : Fraction). fraction_value x.num x.den) c.whole.ensures ∙ fraction_value-zero
+returns-clause-value c = ap (λ (x : Fraction). fraction_value x.num x.den) c.whole.ensures.value ∙ fraction_value-zero

@@ -10,4 +10,4 @@ returns-clause-value c =
     let fits : FitsSigned w128 c.num.result = search rules in
     let fits-a : FitsSigned w128 c.args.a = search rules in
     to_z-of_z w128 c.num.result fits ∙ c.num.ensures
-    ∙ opposite-num c.whole.result c.whole-2.result c.in_ok-r.r c.args.a c.whole.ensures (c.whole-2.ensures ∙ ap whole (to_z-of_z w128 c.args.a fits-a)) c.in_ok-r.ensures.value
+    ∙ opposite-num c.whole.result c.whole-2.result c.in_ok-r.r c.args.a c.whole.ensures.value (c.whole-2.ensures.value ∙ ap whole (to_z-of_z w128 c.args.a fits-a)) c.in_ok-r.ensures.value

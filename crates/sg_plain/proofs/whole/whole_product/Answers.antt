@@ -11,4 +11,4 @@ returns-clause-value c =
     let fits-a : FitsSigned w128 c.args.a = search rules in
     let fits-b : FitsSigned w128 c.args.b = search rules in
     to_z-of_z w128 c.num.result fits ∙ c.num.ensures
-    ∙ product-num c.whole.result c.whole-2.result c.in_ok-r.r c.args.a c.args.b (c.whole.ensures ∙ ap whole (to_z-of_z w128 c.args.a fits-a)) (c.whole-2.ensures ∙ ap whole (to_z-of_z w128 c.args.b fits-b)) c.in_ok-r.ensures.value
+    ∙ product-num c.whole.result c.whole-2.result c.in_ok-r.r c.args.a c.args.b (c.whole.ensures.value ∙ ap whole (to_z-of_z w128 c.args.a fits-a)) (c.whole-2.ensures.value ∙ ap whole (to_z-of_z w128 c.args.b fits-b)) c.in_ok-r.ensures.value

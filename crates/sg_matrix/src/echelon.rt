@@ -79,12 +79,13 @@ impl<F: Field> Echelon<F> {
     }
 
     /// The basis of all vectors of the width that each row sends to 0: one vector for each free column, in ascending order of
-    /// these columns, with 1 in its own free column and 0 in the others.
+    /// these columns, with 1 in its own free column and 0 in the others. There is none where the rank is the width.
     pub fn basis(&self, alloc: Global) -> Result<Row<Row<F>>, Stop>
         ensures sized { IfOk result (λ basis. (i : ℕ) → i < length basis → length (get_or basis i []) ≡ self.now.width) }
         ensures sound { IfOk result (λ basis. (j : ℕ) → j < length self.now.rows → (i : ℕ) → row_times (map F.val (get_or self.now.rows j [])) (coefficient (map F.val (get_or basis i []))) ≡ zero_value) }
         ensures form { IfOk result (λ basis. Form F.val basis) }
         ensures complete { IfOk result (λ basis. (f : ℕ → Value F.vars) → ((k : ℕ) → self.now.width ≤ k → f k ≡ zero_value) → ((j : ℕ) → j < length self.now.rows → row_times (map F.val (get_or self.now.rows j [])) f ≡ zero_value) → Span (table F.val basis) f) }
+        ensures full { IfOk result (λ basis. length self.now.rows ≡ self.now.width → basis ≡ []) }
         ensures wide { IfErr result KeepsWideStep }
     {
         let basis = vectors(alloc, &self.rows, self.width)?;

@@ -80,6 +80,7 @@ pub(crate) fn vectors<F: Field>(
     ensures sound { IfOk result (λ basis. (j : ℕ) → j < length rows.now → (i : ℕ) → row_times (map F.val (get_or rows.now j [])) (coefficient (map F.val (get_or basis i []))) ≡ zero_value) }
     ensures form { IfOk result (λ basis. Form F.val basis) }
     ensures complete { IfOk result (λ basis. (f : ℕ → Value F.vars) → ((k : ℕ) → width ≤ k → f k ≡ zero_value) → ((j : ℕ) → j < length rows.now → row_times (map F.val (get_or rows.now j [])) f ≡ zero_value) → Span (table F.val basis) f) }
+    ensures full { IfOk result (λ basis. length rows.now ≡ width → basis ≡ []) }
     ensures wide { IfErr result KeepsWideStep }
 {
     let mut basis = Row::new(alloc);

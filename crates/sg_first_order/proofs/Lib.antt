@@ -1,0 +1,14 @@
+pub mod Terminal
+pub mod Reduction
+pub mod NonRoot
+pub mod Next
+pub mod Parts
+pub mod Fractions
+pub mod Bounds
+pub mod ValueFractions
+pub mod Weighted
+pub mod FirstOrder
+pub mod Under
+pub mod System
+pub mod Basis
+pub mod Naturals

@@ -1,0 +1,2 @@
+//! The theory of first-order equations over rational functions. It has no code.
+#![tactic(auto)]

@@ -1,5 +1,6 @@
 pub mod Ends
 pub mod Difference
+pub mod QuotientShift
 pub mod ShiftValue
 pub mod Above
 pub mod Degrees

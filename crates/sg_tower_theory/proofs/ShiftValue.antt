@@ -11,7 +11,7 @@ use Rattle.sg_algebra.proofs.Field.{domain}
 use Rattle.sg_algebra.proofs.PolynomialRing.{PolyR}
 use Rattle.sg_algebra.proofs.Degree.{PolyD}
 use Rattle.sg_algebra.proofs.Shift.{moved, movedH, moved-back, moved_cong}
-use Rattle.sg_algebra.proofs.Quotient.{Quotient, QuotientR, add_quotient, mul_quotient, whole_quotient}
+use Rattle.sg_algebra.proofs.Quotient.{QuotientR}
 use Rattle.sg_algebra.proofs.Classes.{one_map, all_two}
 use Rattle.sg_algebra.proofs.Ratio.{ratio-is}
 use Rattle.sg_algebra.proofs.Level.{Level, K}
@@ -20,28 +20,7 @@ use Rattle.sg_algebra.proofs.ValueField.{ValueR, ValueF}
 use Rattle.sg_algebra.proofs.OverValue.{raws-add, raws-mul, ne_raws, over_value_cong}
 use Rattle.sg_algebra.proofs.Embedding.{constant_value, constant_valueH}
 use Rattle.sg_tower_theory.proofs.Difference.{Difference}
-
-module _ (D : Domain) (σ : Hom D.R D.R) (σ_ne : (x : D.R.A) → ¬ (D.R.◌≈◌ x D.R.O) → ¬ (D.R.◌≈◌ (σ.on x) D.R.O)) where
-  open D use {R}
-  open R use {A, ◌≈◌, ◌⊞◌, ◌⊠◌, ⊟, O, I, rfl, symm, trans, add_cong, mul_cong, mul_I}
-  open QuotientR D use {◌≈◌ as ◌≈ᶠ◌}
-
-  abbrev pub shift_quotient : Quotient D → Quotient D
-  shift_quotient x = record { num = σ.on x.num; den = σ.on x.den; den_ne = σ_ne x.den x.den_ne }
-
-  pub shift_quotient_cong : (x y : Quotient D) → x ≈ᶠ y → shift_quotient x ≈ᶠ shift_quotient y
-  shift_quotient_cong x y h = record { cross = trans (symm (σ.on-mul x.num y.den)) (trans (σ.on_cong (x.num ⊠ y.den) (y.num ⊠ x.den) h.cross) (σ.on-mul y.num x.den)) }
-
-  pub shift_quotient-add : (x y : Quotient D) → shift_quotient (add_quotient D x y) ≈ᶠ add_quotient D (shift_quotient x) (shift_quotient y)
-  shift_quotient-add x y = record {
-    cross = mul_cong (trans (σ.on-add (x.num ⊠ y.den) (y.num ⊠ x.den)) (add_cong (σ.on-mul x.num y.den) (σ.on-mul y.num x.den))) (symm (σ.on-mul x.den y.den));
-  }
-
-  pub shift_quotient-mul : (x y : Quotient D) → shift_quotient (mul_quotient D x y) ≈ᶠ mul_quotient D (shift_quotient x) (shift_quotient y)
-  shift_quotient-mul x y = record { cross = mul_cong (σ.on-mul x.num y.num) (symm (σ.on-mul x.den y.den)) }
-
-  pub shift_quotient-one : shift_quotient (whole_quotient D I) ≈ᶠ whole_quotient D I
-  shift_quotient-one = record { cross = trans mul_I (trans σ.on-one (trans (symm mul_I) (mul_cong rfl (symm σ.on-one)))) }
+use Rattle.sg_tower_theory.proofs.QuotientShift.{shift_quotient, shift_quotient_cong, shift_quotient-add, shift_quotient-mul, shift_quotient-one}
 
 module _ (R : Ring) where
   open R use {A, O, I, ⊟}

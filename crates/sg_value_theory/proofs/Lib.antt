@@ -1,0 +1,17 @@
+pub mod Evaluation
+pub mod Elements
+pub mod Quotients
+pub mod Polynomials
+pub mod NextPlace
+pub mod Mapped
+pub mod Places
+pub mod First
+pub mod Integral
+pub mod Antidifferences
+pub mod Parts
+pub mod Bound
+pub mod RootFree
+pub mod RationalPlaces
+pub mod Express
+pub mod Joined
+pub mod RationalTexts

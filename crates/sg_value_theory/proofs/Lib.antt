@@ -2,7 +2,11 @@ pub mod Evaluation
 pub mod Elements
 pub mod Quotients
 pub mod Polynomials
+pub mod LaurentValues
+pub mod LaurentMoving
 pub mod NextPlace
+pub mod Evaluations
+pub mod Moving
 pub mod Mapped
 pub mod Places
 pub mod First
@@ -11,6 +15,7 @@ pub mod Antidifferences
 pub mod Parts
 pub mod Bound
 pub mod RootFree
+pub mod FormalPlaces
 pub mod RationalPlaces
 pub mod Express
 pub mod Joined

@@ -137,7 +137,7 @@ module _ {d : ℕ} where
 
   -- ---- The laws
 
-  lawful_at : (αs : List (Value (suc d))) (n : ℕ) (s : Shape (base αs) n) → AreNew (base αs) (base_shift αs) (IndependentFactors αs) n s → Lawful (NestedD (base αs) n) (tower (base αs) (base_shift αs) n s).σ
+  pub lawful_at : (αs : List (Value (suc d))) (n : ℕ) (s : Shape (base αs) n) → AreNew (base αs) (base_shift αs) (IndependentFactors αs) n s → Lawful (NestedD (base αs) n) (tower (base αs) (base_shift αs) n s).σ
   lawful_at αs zero s h = lawful_products (ValueF (suc d)) (rational_functions d).σ (λ n. numeral_ne (suc d) (suc n) (omega arith)) (factors αs) (factors_some αs) h
   lawful_at αs (suc n) s h = lawful_above (NestedD (base αs) n) (tower (base αs) (base_shift αs) n s.0).σ s.1 (lawful_at αs n s.0 h.0) h.1
 

@@ -19,7 +19,7 @@ use Rattle.sg_spec.specs.Value.{val, both, SameValue}
 use Rattle.sg_spec.specs.Generators.{Over}
 use Rattle.sg_values.proofs.Values.{IsProper, val-proper, product_positive}
 use Rattle.sg_values.proofs.Worth.{number_of, Worth, worth_same, same_worth}
-use Rattle.sg_value_theory.specs.Telescoping.{difference_of, Tele, Agree}
+use Rattle.sg_value_theory.specs.Telescoping.{difference_of, Tele, Failing, Agree}
 use Rattle.sg_tower_theory.proofs.Nested.{Telescopes}
 use Rattle.sg_tower_theory.proofs.Lawful.{Lawful}
 use Rattle.sg_value_theory.proofs.Integral.{Integral}
@@ -201,11 +201,6 @@ module _ (D : Domain) (σ : Hom D.R D.R) (places : Places D.R (ValueR 0) σ) (la
               (subst (λ (z : Value 0). Worth (value_at f k) z) (sym (value_of D (ValueD 0) σ places x y t k u.0 u'.0 v.0 u.1 u'.1 v.1)) v.2)
 
   -- a point from K on where the equation fails
-  pub record Failing (e f : Tree) (K : ℤ) : Type 0 where
-    pub k : ℤ
-    pub past : K ≤ℤ k
-    pub fails : ¬ SameValue (both difference_of (val e (pos 0) (k +ℤ pos 1)) (val e (pos 0) k)) (val f (pos 0) k)
-
   pub failing : (e f : Tree) (x y : A) → known e x → known f y → ¬ Telescopes R σ x y → (K : ℤ) → Failing e f K
   failing e f x y h j n K = go (nonzero_at D (ValueD 0) σ places lawful z (λ c. n (equal (σ.on x ⊞ ⊟ x) y c)) (unsigned_abs (K -ℤ k0)))
     where

@@ -35,3 +35,7 @@ pub mod OneMore
 pub mod Alike
 pub mod Closing
 pub mod Along
+pub mod FormalLaws
+pub mod Converse
+pub mod OwnSums
+pub mod NoneMeansNone

@@ -12,7 +12,7 @@ use Rattle.sg_spec.specs.Value.{val, both, sum_of, opposite_of, SameValue, total
 use Rattle.sg_values.proofs.Totals.{from_on, total-step}
 use Rattle.sg_values.proofs.Values.{IsProper, val-proper}
 use Rattle.sg_values.proofs.Worth.{number_of, Worth, worth_same, same_worth, worth-sum, worth-opposite}
-use Rattle.sg_value_theory.proofs.Express.{HasNumber, worth_unique, both_parts}
+use Rattle.sg_value_theory.proofs.NumberParts.{HasNumber, number_unique, both_parts}
 use Rattle.sg_value_theory.specs.Telescoping.{difference_of, Tele}
 use Rattle.sg_value_theory.proofs.Joined.{worth-difference, difference_proper}
 
@@ -60,7 +60,7 @@ module _ (f h : Tree) (a s : ℤ) (starts : (a -ℤ pos 1) ≤ℤ s) (same : (m 
       low a s k h l = omega (arith, ints)
 
   step : (k : ℤ) (l : s ≤ℤ k) (m : s ≤ℤ (k +ℤ pos 1)) (v : Value 0) → Worth (val f (pos 0) (k +ℤ pos 1)) v → (sum_number (k +ℤ pos 1) m).0 ≡ (sum_number k l).0 +ᵛ v
-  step k l m v w = worth_unique (total f a (k +ℤ pos 1)) (sum_number (k +ℤ pos 1) m).0 ((sum_number k l).0 +ᵛ v) (sum_number (k +ℤ pos 1) m).1
+  step k l m v w = number_unique (total f a (k +ℤ pos 1)) (sum_number (k +ℤ pos 1) m).0 ((sum_number k l).0 +ᵛ v) (sum_number (k +ℤ pos 1) m).1
       (rw (sum_next a f k (low a s k starts l)) (worth-sum (total f a k) (val f (pos 0) (k +ℤ pos 1)) (sum_number k l).0 v (proper (sum_from a f) k) (proper f (k +ℤ pos 1)) (sum_number k l).1 w))
     where
       low : (a s k : ℤ) → (a -ℤ pos 1) ≤ℤ s → s ≤ℤ k → (a -ℤ pos 1) ≤ℤ k

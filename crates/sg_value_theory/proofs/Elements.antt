@@ -1,5 +1,6 @@
 -- Elements of a formal tower, and their values.
 --   Point d                    where an element is evaluated: the variable, and the values of the products, which aren't 0, and of the sums, each from 0
+--   plain_point k ts           the point at k with the values ts of the sums, where there are no products
 --   IsQuotientAt k x v         the quotient x has the value v at the whole number k: it is one of two polynomials, of which the lower one isn't 0 at k
 --   IsPolynomialAt E Has t p v     where `Has` says what values the elements of E have, the polynomial p has the value v at t
 --   IsLaurentAt D Has t x v    the Laurent polynomial x in one product has the value v where the product has the value t: it is a polynomial over a power of it
@@ -10,8 +11,8 @@ use Rattle.std.proofs.Common.{◌≡◌, ℕ, zero, suc, ℤ, pos, ◌+ℤ◌, L
 use Rattle.sg_algebra.specs.Ring.{Ring, Domain}
 use Rattle.sg_algebra.specs.Coefficients.{eval}
 use Rattle.sg_algebra.proofs.Ring.{pow}
-use Rattle.sg_algebra.proofs.Value.{Value, ◌-ᵛ◌, ◌*ᵛ◌, ◌/ᵛ◌, inv_value, zero_value, over_value}
-use Rattle.sg_algebra.proofs.ValueField.{ValueR, ValueF}
+use Rattle.sg_algebra.proofs.Value.{Value, ◌-ᵛ◌, ◌*ᵛ◌, ◌/ᵛ◌, inv_value, zero_value, one_value, over_value}
+use Rattle.sg_algebra.proofs.ValueField.{ValueR, ValueF, value_one_ne}
 use Rattle.sg_algebra.proofs.Rational.{whole_value}
 use Rattle.sg_algebra.proofs.PolynomialRing.{PolyR}
 use Rattle.sg_algebra.proofs.Place.{Pairwise}
@@ -25,6 +26,10 @@ pub record Point (d : ℕ) : Type 0 where
   pub products : ℕ → Value d
   pub sums : ℕ → Value d
   pub nonzero : (i : ℕ) → ¬ (products i ≡ zero_value)
+
+-- with the values of sums alone
+abbrev pub plain_point : {d : ℕ} → ℤ → (ℕ → Value d) → Point d
+plain_point {d} k ts = record { variable = k; products = λ i. one_value; sums = ts; nonzero = λ i. value_one_ne d }
 
 pub record IsQuotientAt {d : ℕ} (k : ℤ) (x : Value (suc d)) (v : Value d) : Type 0 where
   pub upper : List (Value d)

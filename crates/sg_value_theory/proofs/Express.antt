@@ -16,58 +16,10 @@ use Rattle.sg_spec.specs.Value.{val, both, sum_of, product_of, quotient_of, unle
 use Rattle.sg_spec.specs.Generators.{Over}
 use Rattle.sg_values.proofs.Values.{IsProper, val-proper}
 use Rattle.sg_values.proofs.Worth.{number_of, Worth, worth-sum, worth-product, worth-opposite, worth-power}
+use Rattle.sg_value_theory.proofs.NumberParts.{HasNumber, number_unique, both_parts, opposite_part, power_part, quotient_worth, pow-mul}
 use Rattle.sg_tower_theory.proofs.Lawful.{Lawful}
 use Rattle.sg_value_theory.proofs.Places.{Places}
 use Rattle.sg_value_theory.proofs.First.{zero_only}
-
--- ---- Values of parts
-
-abbrev pub HasNumber : Option Fraction → Type 0
-HasNumber u = (v : Value 0) × Worth u v
-
-pub worth_unique : (u : Option Fraction) (v w : Value 0) → Worth u v → Worth u w → v ≡ w
-worth_unique (Some x) v w h k = sym h ∙ k
-worth_unique None v w h k = absurd h
-
-pub both_parts : (f : Fraction → Fraction → Option Fraction) (u v : Option Fraction) (x : Value 0) → Worth (both f u v) x → HasNumber u × HasNumber v
-both_parts f (Some a) (Some b) x h = ((number_of a, refl), (number_of b, refl))
-both_parts f (Some a) None x h = absurd h
-both_parts f None v x h = absurd h
-
-pub opposite_part : (u : Option Fraction) (x : Value 0) → Worth (opposite_of u) x → HasNumber u
-opposite_part (Some a) x h = (number_of a, refl)
-opposite_part None x h = absurd h
-
-pub power_part : (u : Option Fraction) (e : ℕ) (x : Value 0) → Worth (power_of u e) x → HasNumber u
-power_part (Some a) e x h = (number_of a, refl)
-power_part None e x h = absurd h
-
--- a quotient has a value only where the divisor's isn't 0, and is that of the values
-pub quotient_worth : (u v : Option Fraction) (x a b : Value 0) → IsProper u → IsProper v → Worth (both quotient_of u v) x → Worth u a → Worth v b → (¬ (b ≡ zero_value)) × (x *ᵛ b ≡ a)
-quotient_worth (Some r) (Some s) x a b p q h i j = go s.num refl h
-  where
-    nonzero : ¬ (s.num ≡ pos 0) → ¬ (b ≡ zero_value)
-    nonzero n z = n (zero_fraction_value s.num s.den q (j ∙ z))
-
-    made : ¬ (s.num ≡ pos 0) → number_of (over r s) ≡ x → (¬ (b ≡ zero_value)) × (x *ᵛ b ≡ a)
-    made n e = (nonzero n, ap (λ y. y *ᵛ b) (sym e ∙ fraction_value-over r.num s.num r.den s.den p q n ∙ ap₂ ◌/ᵛ◌ i j) ∙ value_product a b (nonzero n))
-
-    go : (z : ℤ) → s.num ≡ z → Worth (unless_zero z (over r s)) x → (¬ (b ≡ zero_value)) × (x *ᵛ b ≡ a)
-    go (pos zero) e h = absurd h
-    go (pos (suc n)) e h = made (λ z. other n (sym e ∙ z)) h
-      where
-        other : (n : ℕ) → pos (suc n) ≡ pos 0 → ⊥
-        other n e = cc
-    go (negsuc n) e h = made (λ z. other n (sym e ∙ z)) h
-      where
-        other : (n : ℕ) → negsuc n ≡ pos 0 → ⊥
-        other n e = cc
-quotient_worth (Some r) None x a b p q h i j = absurd h
-quotient_worth None v x a b p q h i j = absurd h
-
-pow-mul : (x y : Value 0) (e : ℕ) → pow (ValueR 0) x e *ᵛ pow (ValueR 0) y e ≡ pow (ValueR 0) (x *ᵛ y) e
-pow-mul x y zero = ring (ValueR 0) [] (search reads depth 12) refl
-pow-mul x y (suc e) = by (ValueR 0) (x ∷ y ∷ pow (ValueR 0) x e ∷ pow (ValueR 0) y e ∷ pow (ValueR 0) (x *ᵛ y) e ∷ []) (scale (ValueR 0) (x *ᵛ y) (pow-mul x y e)) (search reads depth 16) refl
 
 module _ (D : Domain) (σ : Hom D.R D.R) (places : Places D.R (ValueR 0) σ) (k0 : ℤ) where
   open D use {R}
@@ -139,7 +91,7 @@ module _ (D : Domain) (σ : Hom D.R D.R) (places : Places D.R (ValueR 0) σ) (k0
   }
     where
       at : (k : ℕ) (u w x : Value 0) → Has I k u → Has h k w → worth_at e k x → (v : Value 0) × Has h k v × worth_at e k v → u *ᵛ x ≡ w
-      at k u w x g i j v = ap₂ ◌*ᵛ◌ (has_unique I k u one_value g (places.has_one k)) (worth_unique (val e (pos 0) (k0 +ℤ pos k)) x v.0 j v.2)
+      at k u w x g i j v = ap₂ ◌*ᵛ◌ (has_unique I k u one_value g (places.has_one k)) (number_unique (val e (pos 0) (k0 +ℤ pos k)) x v.0 j v.2)
           ∙ ring (ValueR 0) (v.0 ∷ []) (search reads depth 12) refl ∙ has_unique h k v.0 w v.1 i
 
   add_expressed : (x y : Tree) → Expressed x → Expressed y → Expressed (add x y)
@@ -164,7 +116,7 @@ module _ (D : Domain) (σ : Hom D.R D.R) (places : Places D.R (ValueR 0) σ) (k0
       at : (k : ℕ) (u w v : Value 0) → Has (a.q ⊠ b.q) k u → Has (a.p ⊠ b.q ⊞ b.p ⊠ a.q) k w → worth_at (add x y) k v → Part x a k → Part y b k → u *ᵛ v ≡ w
       at k u w v g i j s t =
           ap₂ ◌*ᵛ◌ (has_unique (a.q ⊠ b.q) k u (s.u *ᵛ t.u) g (places.has_mul a.q b.q k s.u t.u s.has_q t.has_q))
-          (worth_unique (val (add x y) (pos 0) (k0 +ℤ pos k)) v (s.x +ᵛ t.x) j
+          (number_unique (val (add x y) (pos 0) (k0 +ℤ pos k)) v (s.x +ᵛ t.x) j
           (worth-sum (val x (pos 0) (k0 +ℤ pos k)) (val y (pos 0) (k0 +ℤ pos k)) s.x t.x (val-proper x (pos 0) (k0 +ℤ pos k)) (val-proper y (pos 0) (k0 +ℤ pos k)) s.worth t.worth))
           ∙ sums s.u s.w s.x t.u t.w t.x s.is t.is
           ∙ has_unique (a.p ⊠ b.q ⊞ b.p ⊠ a.q) k (s.w *ᵛ t.u +ᵛ t.w *ᵛ s.u) w
@@ -192,7 +144,7 @@ module _ (D : Domain) (σ : Hom D.R D.R) (places : Places D.R (ValueR 0) σ) (k0
       at : (k : ℕ) (u w v : Value 0) → Has (a.q ⊠ b.q) k u → Has (a.p ⊠ b.p) k w → worth_at (mul x y) k v → Part x a k → Part y b k → u *ᵛ v ≡ w
       at k u w v g i j s t =
           ap₂ ◌*ᵛ◌ (has_unique (a.q ⊠ b.q) k u (s.u *ᵛ t.u) g (places.has_mul a.q b.q k s.u t.u s.has_q t.has_q))
-          (worth_unique (val (mul x y) (pos 0) (k0 +ℤ pos k)) v (s.x *ᵛ t.x) j
+          (number_unique (val (mul x y) (pos 0) (k0 +ℤ pos k)) v (s.x *ᵛ t.x) j
           (worth-product (val x (pos 0) (k0 +ℤ pos k)) (val y (pos 0) (k0 +ℤ pos k)) s.x t.x (val-proper x (pos 0) (k0 +ℤ pos k)) (val-proper y (pos 0) (k0 +ℤ pos k)) s.worth t.worth))
           ∙ products s.u s.w s.x t.u t.w t.x s.is t.is
           ∙ has_unique (a.p ⊠ b.p) k (s.w *ᵛ t.w) w (places.has_mul a.p b.p k s.w t.w s.has_p t.has_p) i
@@ -212,7 +164,7 @@ module _ (D : Domain) (σ : Hom D.R D.R) (places : Places D.R (ValueR 0) σ) (k0
       at : (k : ℕ) (u w v : Value 0) → Has a.q k u → Has (⊟ a.p) k w → worth_at (neg x) k v → Part x a k → u *ᵛ v ≡ w
       at k u w v g i j s =
           ap₂ ◌*ᵛ◌ (has_unique a.q k u s.u g s.has_q)
-          (worth_unique (val (neg x) (pos 0) (k0 +ℤ pos k)) v (neg_value s.x) j (worth-opposite (val x (pos 0) (k0 +ℤ pos k)) s.x (val-proper x (pos 0) (k0 +ℤ pos k)) s.worth))
+          (number_unique (val (neg x) (pos 0) (k0 +ℤ pos k)) v (neg_value s.x) j (worth-opposite (val x (pos 0) (k0 +ℤ pos k)) s.x (val-proper x (pos 0) (k0 +ℤ pos k)) s.worth))
           ∙ opposite s.u s.w s.x s.is
           ∙ has_unique (⊟ a.p) k (neg_value s.w) w (places.has_neg a.p k s.w s.has_p) i
 
@@ -228,7 +180,7 @@ module _ (D : Domain) (σ : Hom D.R D.R) (places : Places D.R (ValueR 0) σ) (k0
       at : (k : ℕ) (u w v : Value 0) → Has (pow R a.q e) k u → Has (pow R a.p e) k w → worth_at (power x e) k v → Part x a k → u *ᵛ v ≡ w
       at k u w v g i j s =
           ap₂ ◌*ᵛ◌ (has_unique (pow R a.q e) k u (pow (ValueR 0) s.u e) g (has_pow a.q k s.u e s.has_q))
-          (worth_unique (val (power x e) (pos 0) (k0 +ℤ pos k)) v (pow (ValueR 0) s.x e) j (worth-power (val x (pos 0) (k0 +ℤ pos k)) s.x e (val-proper x (pos 0) (k0 +ℤ pos k)) s.worth))
+          (number_unique (val (power x e) (pos 0) (k0 +ℤ pos k)) v (pow (ValueR 0) s.x e) j (worth-power (val x (pos 0) (k0 +ℤ pos k)) s.x e (val-proper x (pos 0) (k0 +ℤ pos k)) s.worth))
           ∙ pow-mul s.u s.x e ∙ ap (λ y. pow (ValueR 0) y e) s.is
           ∙ has_unique (pow R a.p e) k (pow (ValueR 0) s.w e) w (has_pow a.p k s.w e s.has_p) i
 

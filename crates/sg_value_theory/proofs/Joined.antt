@@ -26,7 +26,8 @@ use Rattle.sg_value_theory.proofs.Integral.{Integral}
 use Rattle.sg_value_theory.proofs.Places.{Places}
 use Rattle.sg_value_theory.proofs.First.{NonzeroAt, nonzero_at, zero_only}
 use Rattle.sg_value_theory.proofs.Antidifferences.{formal, value_of}
-use Rattle.sg_value_theory.proofs.Express.{HasNumber, worth_unique, both_parts, Known, Expressed, express}
+use Rattle.sg_value_theory.proofs.NumberParts.{HasNumber, number_unique, both_parts}
+use Rattle.sg_value_theory.proofs.Express.{Known, Expressed, express}
 
 -- ---- Numbers
 
@@ -111,7 +112,7 @@ module _ (D : Domain) (σ : Hom D.R D.R) (places : Places D.R (ValueR 0) σ) (la
 
         steps : (k : ℕ) (v : Value 0) → b ≤ k → Has x k v → E (suc k) -ᵛ E k ≡ v
         steps k v l i =
-            worth_unique (both difference_of (value_at e (suc k)) (value_at e k)) (E (suc k) -ᵛ E k) v
+            number_unique (both difference_of (value_at e (suc k)) (value_at e k)) (E (suc k) -ᵛ E k) v
             (worth-difference (value_at e (suc k)) (value_at e k) (E (suc k)) (E k) (proper e (suc k)) (proper e k) (number_worth (value_at e (suc k)) (defined (suc k) (after b k l))) (number_worth (value_at e k) (defined k l)))
             (same_worth (both difference_of (value_at e (suc k)) (value_at e k)) (value_at f k) v (difference_proper (value_at e (suc k)) (value_at e k) (proper e (suc k)) (proper e k)) (proper f k)
             (at_place e f t k l) (known_worth f x h k v i))
@@ -217,7 +218,7 @@ module _ (D : Domain) (σ : Hom D.R D.R) (places : Places D.R (ValueR 0) σ) (la
               → SameValue (both difference_of (value_at e (suc p.k)) (value_at e p.k)) (value_at f p.k) → ⊥
           at u u' v s = p.ne (has_unique z p.k p.v ((u'.0 -ᵛ u.0) -ᵛ v.0) p.has
               (places.has_add (σ.on x ⊞ ⊟ x) (⊟ y) p.k (u'.0 -ᵛ u.0) (neg_value v.0) (places.has_add (σ.on x) (⊟ x) p.k u'.0 (neg_value u.0) (places.has_shift x p.k u'.0 u'.1) (places.has_neg x p.k u.0 u.1)) (places.has_neg y p.k v.0 v.1))
-              ∙ ap (λ w. w -ᵛ v.0) (worth_unique (both difference_of (value_at e (suc p.k)) (value_at e p.k)) (u'.0 -ᵛ u.0) v.0
+              ∙ ap (λ w. w -ᵛ v.0) (number_unique (both difference_of (value_at e (suc p.k)) (value_at e p.k)) (u'.0 -ᵛ u.0) v.0
               (difference_worth e x h p.k u.0 u'.0 u.1 u'.1)
               (same_worth (both difference_of (value_at e (suc p.k)) (value_at e p.k)) (value_at f p.k) v.0 (difference_proper (value_at e (suc p.k)) (value_at e p.k) (proper e (suc p.k)) (proper e p.k)) (proper f p.k) s v.2))
               ∙ (ValueR 0).add_neg)
@@ -234,7 +235,7 @@ module _ (D : Domain) (σ : Hom D.R D.R) (places : Places D.R (ValueR 0) σ) (la
         where
           at : (u : Value 0) × Has x k u × Worth (value_at e k) u → (w : Value 0) × Has y k w × Worth (value_at g k) w → v ≡ zero_value
           at u w = has_unique (x ⊞ ⊟ y) k v (u.0 -ᵛ w.0) i (places.has_add x (⊟ y) k u.0 (neg_value w.0) u.1 (places.has_neg y k w.0 w.1))
-              ∙ ap (λ z. z -ᵛ w.0) (worth_unique (value_at e k) u.0 w.0 u.2 (same_worth (value_at e k) (value_at g k) w.0 (proper e k) (proper g k) (a.same (k0 +ℤ pos k) (reach k0 a.from k l)) w.2))
+              ∙ ap (λ z. z -ᵛ w.0) (number_unique (value_at e k) u.0 w.0 u.2 (same_worth (value_at e k) (value_at g k) w.0 (proper e k) (proper g k) (a.same (k0 +ℤ pos k) (reach k0 a.from k l)) w.2))
               ∙ (ValueR 0).add_neg
 
   pub same_agree : (e g : Tree) (x y : A) → known e x → known g y → x ≈ y → (k : ℕ) → SameValue (value_at e k) (value_at g k)

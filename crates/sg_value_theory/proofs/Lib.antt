@@ -17,6 +17,7 @@ pub mod Bound
 pub mod RootFree
 pub mod FormalPlaces
 pub mod RationalPlaces
+pub mod NumberParts
 pub mod Express
 pub mod Joined
 pub mod RationalTexts
@@ -39,3 +40,4 @@ pub mod FormalLaws
 pub mod Converse
 pub mod OwnSums
 pub mod NoneMeansNone
+pub mod NumberWorths

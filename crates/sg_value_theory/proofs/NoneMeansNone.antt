@@ -33,7 +33,8 @@ use Rattle.sg_value_theory.proofs.Evaluations.{lifted-has}
 use Rattle.sg_value_theory.proofs.RationalPlaces.{variable, variable_at}
 use Rattle.sg_value_theory.proofs.FormalPlaces.{places_along}
 use Rattle.sg_value_theory.proofs.FormalLaws.{integral_formal}
-use Rattle.sg_value_theory.proofs.Express.{HasNumber, Known}
+use Rattle.sg_value_theory.proofs.NumberParts.{HasNumber}
+use Rattle.sg_value_theory.proofs.Express.{Known}
 use Rattle.sg_value_theory.proofs.Joined.{none_in_values, tele_of_formal, failing, agree_formal, agree_same, same_agree}
 use Rattle.sg_value_theory.proofs.OwnSums.{contains_cons, nothing}
 use Rattle.sg_value_theory.proofs.Lists.{each-at}

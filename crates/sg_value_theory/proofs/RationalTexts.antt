@@ -21,7 +21,8 @@ use Rattle.sg_tower_theory.proofs.ShiftValue.{shift_valueH}
 use Rattle.sg_value_theory.proofs.Elements.{IsQuotientAt}
 use Rattle.sg_value_theory.proofs.Quotients.{quotients, quotient-over}
 use Rattle.sg_value_theory.proofs.Integral.{integral_field}
-use Rattle.sg_value_theory.proofs.Express.{HasNumber, worth_unique, both_parts, opposite_part, power_part, quotient_worth, Known}
+use Rattle.sg_value_theory.proofs.NumberParts.{HasNumber, number_unique, both_parts, opposite_part, power_part, quotient_worth}
+use Rattle.sg_value_theory.proofs.Express.{Known}
 use Rattle.sg_value_theory.proofs.Joined.{none_in_values, tele_formal}
 use Rattle.sg_value_theory.proofs.RationalPlaces.{point, whole_at, lawful_rational, variable, variable_at, rational_places}
 
@@ -72,15 +73,15 @@ module _ (k : ℤ) where
   worth_has param o v h = absurd o
   worth_has (add x y) o v h =
       let n = both_parts sum_of (val x (pos 0) k) (val y (pos 0) k) v h in
-      with_value (element_of x +ᵛ element_of y) (n.0.0 +ᵛ n.1.0) v (worth_unique (val (add x y) (pos 0) k) (n.0.0 +ᵛ n.1.0) v (worth-sum (val x (pos 0) k) (val y (pos 0) k) n.0.0 n.1.0 (val-proper x (pos 0) k) (val-proper y (pos 0) k) n.0.1 n.1.1) h)
+      with_value (element_of x +ᵛ element_of y) (n.0.0 +ᵛ n.1.0) v (number_unique (val (add x y) (pos 0) k) (n.0.0 +ᵛ n.1.0) v (worth-sum (val x (pos 0) k) (val y (pos 0) k) n.0.0 n.1.0 (val-proper x (pos 0) k) (val-proper y (pos 0) k) n.0.1 n.1.1) h)
       ((quotients 0 k).add_has (element_of x) (element_of y) n.0.0 n.1.0 (worth_has x o.0 n.0.0 n.0.1) (worth_has y o.1 n.1.0 n.1.1))
   worth_has (neg x) o v h =
       let n = opposite_part (val x (pos 0) k) v h in
-      with_value (neg_value (element_of x)) (neg_value n.0) v (worth_unique (val (neg x) (pos 0) k) (neg_value n.0) v (worth-opposite (val x (pos 0) k) n.0 (val-proper x (pos 0) k) n.1) h)
+      with_value (neg_value (element_of x)) (neg_value n.0) v (number_unique (val (neg x) (pos 0) k) (neg_value n.0) v (worth-opposite (val x (pos 0) k) n.0 (val-proper x (pos 0) k) n.1) h)
       ((quotients 0 k).neg_has (element_of x) n.0 (worth_has x o n.0 n.1))
   worth_has (mul x y) o v h =
       let n = both_parts product_of (val x (pos 0) k) (val y (pos 0) k) v h in
-      with_value (element_of x *ᵛ element_of y) (n.0.0 *ᵛ n.1.0) v (worth_unique (val (mul x y) (pos 0) k) (n.0.0 *ᵛ n.1.0) v (worth-product (val x (pos 0) k) (val y (pos 0) k) n.0.0 n.1.0 (val-proper x (pos 0) k) (val-proper y (pos 0) k) n.0.1 n.1.1) h)
+      with_value (element_of x *ᵛ element_of y) (n.0.0 *ᵛ n.1.0) v (number_unique (val (mul x y) (pos 0) k) (n.0.0 *ᵛ n.1.0) v (worth-product (val x (pos 0) k) (val y (pos 0) k) n.0.0 n.1.0 (val-proper x (pos 0) k) (val-proper y (pos 0) k) n.0.1 n.1.1) h)
       ((quotients 0 k).mul_has (element_of x) (element_of y) n.0.0 n.1.0 (worth_has x o.0 n.0.0 n.0.1) (worth_has y o.1 n.1.0 n.1.1))
   worth_has (div x y) o v h =
       let n = both_parts quotient_of (val x (pos 0) k) (val y (pos 0) k) v h in
@@ -88,7 +89,7 @@ module _ (k : ℤ) where
       with_value (element_of x /ᵛ element_of y) (n.0.0 /ᵛ n.1.0) v (sym (value_quotient n.0.0 n.1.0 v q.0 q.1)) (quotient-over k (element_of x) (element_of y) n.0.0 n.1.0 (worth_has x o.0 n.0.0 n.0.1) (worth_has y o.1 n.1.0 n.1.1) q.0)
   worth_has (power x e) o v h =
       let n = power_part (val x (pos 0) k) e v h in
-      with_value (pow (ValueR 1) (element_of x) e) (pow (ValueR 0) n.0 e) v (worth_unique (val (power x e) (pos 0) k) (pow (ValueR 0) n.0 e) v (worth-power (val x (pos 0) k) n.0 e (val-proper x (pos 0) k) n.1) h)
+      with_value (pow (ValueR 1) (element_of x) e) (pow (ValueR 0) n.0 e) v (number_unique (val (power x e) (pos 0) k) (pow (ValueR 0) n.0 e) v (worth-power (val x (pos 0) k) n.0 e (val-proper x (pos 0) k) n.1) h)
       (at_pow (element_of x) n.0 e (worth_has x o n.0 n.1))
   worth_has (sum_from a b) o v h = absurd (nothing_listed o)
   worth_has (prod_from a b) o v h = absurd o

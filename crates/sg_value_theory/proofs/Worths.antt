@@ -56,7 +56,7 @@ module _ (op : Fraction → Fraction → Option Fraction) (plus : Value 0 → Va
       worth_cong (both op (folded op start term from n) (term (from +ℤ pos n))) (plus h.0 h.1) v (sym h.4)
       (joins (folded op start term from n) (term (from +ℤ pos n)) h.0 h.1 (proper n from) (term-proper (from +ℤ pos n)) (folded_worth from n h.0 h.2) (terms (from +ℤ pos n) h.1 h.3))
 
-sums_proper : (term : ℤ → Option Fraction) → ((j : ℤ) → IsProper (term j)) → (n : ℕ) (from : ℤ) → IsProper (folded sum_of (whole (pos 0)) term from n)
+pub sums_proper : (term : ℤ → Option Fraction) → ((j : ℤ) → IsProper (term j)) → (n : ℕ) (from : ℤ) → IsProper (folded sum_of (whole (pos 0)) term from n)
 sums_proper term h zero from = omega arith
 sums_proper term h (suc n) from = sum_proper (folded sum_of (whole (pos 0)) term from n) (term (from +ℤ pos n)) (sums_proper term h n from) (h (from +ℤ pos n))
 
@@ -65,7 +65,7 @@ product_proper (Some x) (Some y) h k = product_positive x.den y.den h k
 product_proper (Some x) None h k = tt
 product_proper None v h k = tt
 
-products_proper : (term : ℤ → Option Fraction) → ((j : ℤ) → IsProper (term j)) → (n : ℕ) (from : ℤ) → IsProper (folded product_of (whole (pos 1)) term from n)
+pub products_proper : (term : ℤ → Option Fraction) → ((j : ℤ) → IsProper (term j)) → (n : ℕ) (from : ℤ) → IsProper (folded product_of (whole (pos 1)) term from n)
 products_proper term h zero from = omega arith
 products_proper term h (suc n) from = product_proper (folded product_of (whole (pos 1)) term from n) (term (from +ℤ pos n)) (products_proper term h n from) (h (from +ℤ pos n))
 

@@ -41,3 +41,4 @@ pub mod Converse
 pub mod OwnSums
 pub mod NoneMeansNone
 pub mod NumberWorths
+pub mod FlatValues

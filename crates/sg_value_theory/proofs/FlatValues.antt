@@ -237,7 +237,7 @@ powers_at zero p es = units_value p.products (reverse es)
 powers_at {d} (suc n) p es = pow (ValueR d) (p.sums n) (exponent_of es) *ᵛ powers_at n p (without_first es)
 
 module _ {d : ℕ} (αs : List (Value (suc d))) where
-  term-has : (n : ℕ) (p : Point d) (es : List ℤ) (c : Value (suc d)) (w : Value d) → Fits αs n es → IsQuotientAt p.variable c w → HasIn αs n p (term_in αs n es c) (w *ᵛ powers_at n p es)
+  pub term-has : (n : ℕ) (p : Point d) (es : List ℤ) (c : Value (suc d)) (w : Value d) → Fits αs n es → IsQuotientAt p.variable c w → HasIn αs n p (term_in αs n es c) (w *ᵛ powers_at n p es)
   term-has zero p es c w l h = one_term-has (length (factors αs)) p.variable p.products p.nonzero (reverse es) c w (length-reverse es ∙ l) h
   term-has (suc n) p es c w l h =
       subst (IsPolynomialAt (NestedR (base αs) n) (HasIn αs n p) (p.sums n) (raised_to (NestedR (base αs) n) (exponent_of es) (term_in αs n (without_first es) c)))

@@ -42,3 +42,5 @@ pub mod OwnSums
 pub mod NoneMeansNone
 pub mod NumberWorths
 pub mod FlatValues
+pub mod FlatTerms
+pub mod Inverses

@@ -55,7 +55,7 @@ module _ {d : ℕ} where
   factor_ne : (a t t' : Value d) → t' ≡ a *ᵛ t → ¬ (t' ≡ zero_value) → ¬ (a ≡ zero_value)
   factor_ne a t t' e n z = n (e ∙ ap (λ b. b *ᵛ t) z ∙ ring (ValueR d) (t ∷ []) (search reads depth 12) refl)
 
-  inverse-has : (k : ℤ) (α : Value (suc d)) (a : Value d) → IsQuotientAt k α a → ¬ (a ≡ zero_value) → IsQuotientAt k (inv_value α) (inv_value a)
+  pub inverse-has : (k : ℤ) (α : Value (suc d)) (a : Value d) → IsQuotientAt k α a → ¬ (a ≡ zero_value) → IsQuotientAt k (inv_value α) (inv_value a)
   inverse-has k α a h n =
       subst (λ (x : Value (suc d)). IsQuotientAt k x (inv_value a)) (one_over (suc d) α)
       (subst (IsQuotientAt k (one_value /ᵛ α)) (one_over d a) (quotient-over k one_value α one_value a (quotients d k).one_has h n))

@@ -1,5 +1,5 @@
 -- Two points at the same place, with the values of the same expressions, give each element the same values.
-use Rattle.std.proofs.Common.{◌≡◌, ℕ, ◌<◌, ℤ, sym, ◌∙◌, subst, List, length, map, get_or, arith}
+use Rattle.std.proofs.Common.{◌≡◌, ℕ, ℤ, subst, List, get_or, arith}
 use Rattle.std.proofs.lemmas.List.{length-map}
 use Rattle.sg_algebra.proofs.Value.{Value}
 use Rattle.sg_spec.specs.Tree.{Tree, here}

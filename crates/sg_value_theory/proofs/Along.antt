@@ -1,19 +1,17 @@
 -- A sum that is expressed: what telescopes its difference, with the right constant, agrees with it from the start on.
 --   regular     it has a value at the start
 --   agrees      with the constant the element agrees with the sum at each point from the start on
-use Rattle.std.proofs.Common.{◌≡◌, ℕ, zero, suc, ◌+◌, ◌≤◌, ℤ, pos, ◌+ℤ◌, ◌-ℤ◌, ◌≤ℤ◌, refl, sym, ap, ◌∙◌, subst, List, [], ◌∷◌, length, arith}
+use Rattle.std.proofs.Common.{◌≡◌, ℕ, suc, ℤ, pos, ◌+ℤ◌, ◌-ℤ◌, ◌≤ℤ◌, refl, sym, ap, ◌∙◌, subst, List, [], ◌∷◌, arith}
 use Rattle.std.proofs.lemmas.Int.{ints}
-use Rattle.sg_algebra.specs.Ring.{Ring, Hom}
 use Rattle.sg_algebra.specs.Coefficients.{Each}
 use Rattle.sg_algebra.proofs.Solver.{ring, by, scale, reads}
 use Rattle.sg_algebra.proofs.Value.{Value, ◌+ᵛ◌, ◌-ᵛ◌, one_value}
 use Rattle.sg_algebra.proofs.ValueField.{ValueR}
 use Rattle.sg_spec.specs.Tree.{Tree, sum_from}
 use Rattle.sg_values.proofs.Totals.{from_on}
-use Rattle.sg_tower_theory.proofs.Difference.{Difference, delta}
+use Rattle.sg_tower_theory.proofs.Difference.{delta}
 use Rattle.sg_tower_theory.proofs.Formal.{Formal, Element, elements, shifted}
 use Rattle.sg_value_theory.proofs.TreeWorth.{HasWorth}
-use Rattle.sg_value_theory.proofs.Evaluation.{Evaluation}
 use Rattle.sg_value_theory.proofs.Elements.{Point, HasElement}
 use Rattle.sg_value_theory.proofs.TreePoints.{IsPointOf, Agrees}
 use Rattle.sg_value_theory.proofs.TowerOf.{IsTowerOf, at_places}
@@ -71,9 +69,11 @@ module _ {d : ℕ} (letter : Value d) (s : ℤ) (ps before : List Tree) (f : For
 
   terms : (j : ℕ) → (w : Value d) × HasElement f (place j) β w × (T (suc j) ≡ T j +ᵛ w)
   terms j =
-      let w = has ((s +ℤ pos j) +ℤ pos 1) (omega (arith, ints, starts)) in
-      (w.0, grows letter s ps before f places known is from body starts has x β placed shifts (place j) (place (suc j)) (place-late j) (next j) (are j) (are (suc j)) w.0 w.1,
-        sum-grows letter from body (s +ℤ pos j) (T j) (T (suc j)) w.0 (omega (arith, ints, starts)) (T-has j) (subst (λ (k : ℤ). HasWorth letter g k (T (suc j))) (next j) (T-has (suc j))) w.1)
+      let w = has ((s +ℤ pos j) +ℤ pos 1) (omega (arith, ints, starts)) in (
+        w.0,
+        grows letter s ps before f places known is from body starts has x β placed shifts (place j) (place (suc j)) (place-late j) (next j) (are j) (are (suc j)) w.0 w.1,
+        sum-grows letter from body (s +ℤ pos j) (T j) (T (suc j)) w.0 (omega (arith, ints, starts)) (T-has j) (subst (λ (k : ℤ). HasWorth letter g k (T (suc j))) (next j) (T-has (suc j))) w.1,
+      )
 
   first-place : s +ℤ pos 0 ≡ s
   first-place = omega (arith, ints)

@@ -2,11 +2,10 @@
 --   sum_step         a plain sum with one more term
 --   total_closes     the plain sum from its start constant and what telescopes it from s on, at any depth
 --   closed_form      over the fractions this is a closed form
-use Rattle.std.proofs.Common.{◌≡◌, ℕ, zero, suc, ◌+◌, ℤ, pos, negsuc, ◌+ℤ◌, ◌-ℤ◌, ◌≤ℤ◌, refl, sym, ap, ap₂, ◌∙◌, subst, List, [], ◌∷◌, Some, None, arith}
+use Rattle.std.proofs.Common.{◌≡◌, ℕ, zero, suc, ℤ, pos, negsuc, ◌+ℤ◌, ◌-ℤ◌, ◌≤ℤ◌, refl, sym, ap, ap₂, subst, List, [], ◌∷◌, arith}
 use Rattle.std.proofs.lemmas.Int.{ints}
-use Rattle.sg_algebra.specs.Ring.{Ring}
-use Rattle.sg_algebra.proofs.Solver.{ring, by, scale, reads}
-use Rattle.sg_algebra.proofs.Value.{Value, ◌+ᵛ◌, ◌-ᵛ◌, ◌*ᵛ◌, neg_value, zero_value, one_value}
+use Rattle.sg_algebra.proofs.Solver.{by, scale, reads}
+use Rattle.sg_algebra.proofs.Value.{Value, ◌+ᵛ◌, ◌-ᵛ◌, neg_value, zero_value, one_value}
 use Rattle.sg_algebra.proofs.ValueField.{ValueR}
 use Rattle.sg_algebra.proofs.Rational.{whole_value}
 use Rattle.sg_spec.specs.Tree.{Tree, sum_from}
@@ -14,10 +13,9 @@ use Rattle.sg_spec.specs.Value.{val, how_many, steps_to, SameValue, total}
 use Rattle.sg_spec.specs.Generators.{sums, prods, start}
 use Rattle.sg_spec.specs.Closed.{Closed, IsOverOwn}
 use Rattle.sg_values.proofs.Values.{val-proper}
-use Rattle.sg_values.proofs.Worth.{Worth, worth_same}
+use Rattle.sg_values.proofs.Worth.{worth_same}
 use Rattle.sg_values.proofs.Totals.{from_on}
 use Rattle.sg_value_theory.proofs.TreeWorth.{IsFolded, HasWorth}
-use Rattle.sg_value_theory.proofs.Evaluation.{Evaluation}
 use Rattle.sg_value_theory.proofs.Worths.{worth_number}
 
 module _ {d : ℕ} (letter : Value d) (f : Tree) (a : ℤ) where

@@ -1,17 +1,15 @@
 -- The closed form of a sum, from what the calls of a command answer.
 --   closing      where g telescopes the element of f, and h says what the element y says, which is g one place further and a constant, h is a closed form of the sum of f
-use Rattle.std.proofs.Common.{◌≡◌, ℕ, zero, suc, ◌+◌, ℤ, pos, ◌+ℤ◌, ◌-ℤ◌, ◌≤ℤ◌, refl, sym, ◌∙◌, subst, List, [], ◌∷◌, arith}
+use Rattle.std.proofs.Common.{◌≡◌, ℕ, suc, ℤ, pos, ◌+ℤ◌, ◌-ℤ◌, ◌≤ℤ◌, sym, ◌∙◌, List, ◌∷◌, arith}
 use Rattle.std.proofs.lemmas.Int.{ints}
-use Rattle.sg_algebra.specs.Ring.{Ring, Hom}
 use Rattle.sg_algebra.specs.Coefficients.{Each}
 use Rattle.sg_algebra.proofs.Value.{Value, ◌+ᵛ◌, ◌-ᵛ◌}
 use Rattle.sg_spec.specs.Tree.{Tree, sum_from}
 use Rattle.sg_spec.specs.Generators.{sums, prods, start}
 use Rattle.sg_spec.specs.Closed.{Closed, IsOverOwn}
-use Rattle.sg_tower_theory.proofs.Difference.{Difference, delta}
+use Rattle.sg_tower_theory.proofs.Difference.{delta}
 use Rattle.sg_tower_theory.proofs.Formal.{Formal, Element, elements, shifted}
 use Rattle.sg_value_theory.proofs.TreeWorth.{HasWorth}
-use Rattle.sg_value_theory.proofs.Evaluation.{Evaluation}
 use Rattle.sg_value_theory.proofs.Elements.{Point, HasElement}
 use Rattle.sg_value_theory.proofs.TreePoints.{IsPointOf, Agrees, Expresses}
 use Rattle.sg_value_theory.proofs.TowerOf.{IsTowerOf, at_places}

@@ -5,9 +5,8 @@
 --   constant-has        a constant has itself
 --   own-has             a sum has its value
 --   same-at             the value of an element hangs on the variable and the values of the products and sums of the tower
-use Rattle.std.proofs.Common.{◌≡◌, ◌≢◌, ℕ, zero, suc, ◌<◌, ◌==◌, cond, Bool, true, false, ◌⊎◌, inl, inr, ℤ, refl, sym, ap, ◌∙◌, subst, List, [], ◌∷◌, length, arith}
+use Rattle.std.proofs.Common.{◌≡◌, ◌≢◌, ℕ, zero, suc, ◌<◌, ◌==◌, cond, Bool, true, false, ◌⊎◌, inl, inr, ℤ, sym, ap, ◌∙◌, subst, List, [], ◌∷◌, length, arith}
 use Rattle.std.proofs.lemmas.Bool.Decides.{eqb_tells}
-use Rattle.sg_algebra.specs.Ring.{Ring, Domain, Hom}
 use Rattle.sg_algebra.specs.Coefficients.{eval}
 use Rattle.sg_algebra.proofs.Ring.{pow}
 use Rattle.sg_algebra.proofs.Value.{Value, ◌*ᵛ◌, inv_value, zero_value}

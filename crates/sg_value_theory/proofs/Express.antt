@@ -2,20 +2,20 @@
 --   Known            an element whose values are those of the expression at every place
 --   Expressed        elements p and q, q not zero, with q's value times the expression's value = p's value from some place on
 --   express          every expression over known sums whose values exist from some place on is so; divisors may hold sums
-use Rattle.std.proofs.Common.{◌≡◌, ℕ, zero, suc, ◌+◌, ◌≤◌, refl, sym, ◌∙◌, ap, ap₂, List, [], ◌∷◌, ℤ, pos, negsuc, ◌+ℤ◌, Option, Some, None, Contains, arith}
+use Rattle.std.proofs.Common.{◌≡◌, ℕ, zero, suc, ◌+◌, ◌≤◌, refl, ◌∙◌, ap, ap₂, List, [], ◌∷◌, ℤ, pos, negsuc, ◌+ℤ◌, Option, Contains, arith}
 use Rattle.sg_algebra.specs.Ring.{Domain, Hom}
 use Rattle.sg_algebra.proofs.Ring.{nat, pow}
 use Rattle.sg_algebra.proofs.Solver.{ring, by, scale, reads}
 use Rattle.sg_algebra.proofs.Field.{product_ne}
-use Rattle.sg_algebra.proofs.Value.{Value, ◌+ᵛ◌, ◌*ᵛ◌, ◌/ᵛ◌, neg_value, zero_value, one_value}
-use Rattle.sg_algebra.proofs.ValueField.{ValueR, ValueD, value_is_zero, value_product}
-use Rattle.sg_algebra.proofs.Rational.{whole_value, fraction_value-whole, fraction_value-over, zero_fraction_value}
-use Rattle.sg_spec.specs.Fraction.{Fraction, over}
+use Rattle.sg_algebra.proofs.Value.{Value, ◌+ᵛ◌, ◌*ᵛ◌, neg_value, zero_value, one_value}
+use Rattle.sg_algebra.proofs.ValueField.{ValueR, ValueD, value_is_zero}
+use Rattle.sg_algebra.proofs.Rational.{whole_value, fraction_value-whole}
+use Rattle.sg_spec.specs.Fraction.{Fraction}
 use Rattle.sg_spec.specs.Tree.{Tree, numeral, here, param, add, neg, mul, div, power, sum_from, prod_from}
-use Rattle.sg_spec.specs.Value.{val, both, sum_of, product_of, quotient_of, unless_zero, opposite_of, power_of}
+use Rattle.sg_spec.specs.Value.{val, both, sum_of, product_of, quotient_of}
 use Rattle.sg_spec.specs.Generators.{Over}
-use Rattle.sg_values.proofs.Values.{IsProper, val-proper}
-use Rattle.sg_values.proofs.Worth.{number_of, Worth, worth-sum, worth-product, worth-opposite, worth-power}
+use Rattle.sg_values.proofs.Values.{val-proper}
+use Rattle.sg_values.proofs.Worth.{Worth, worth-sum, worth-product, worth-opposite, worth-power}
 use Rattle.sg_value_theory.proofs.NumberParts.{HasNumber, number_unique, both_parts, opposite_part, power_part, quotient_worth, pow-mul}
 use Rattle.sg_tower_theory.proofs.Lawful.{Lawful}
 use Rattle.sg_value_theory.proofs.Places.{Places}

@@ -3,14 +3,13 @@
 --   after-differ      of exponents that fit, one list of which comes after the other, some differ
 --   fits_flat         the exponents of a flat list fit
 --   flat-value        where an element has a value, it is that of its flat list
-use Rattle.std.proofs.Common.{◌≡◌, ◌≢◌, ℕ, zero, suc, ◌+◌, ◌≤◌, ℤ, pos, negsuc, ◌<ℤ◌, ◌≤ℤ◌, unsigned_abs, refl, sym, ap, ◌∙◌, subst, List, [], ◌∷◌, ◌++◌, length, map, reverse, take, drop, arith, ◌⊎◌, inl, inr}
+use Rattle.std.proofs.Common.{◌≡◌, ◌≢◌, ℕ, zero, suc, ◌+◌, ℤ, pos, negsuc, ◌<ℤ◌, ◌≤ℤ◌, unsigned_abs, refl, sym, ap, ◌∙◌, subst, List, [], ◌∷◌, ◌++◌, length, reverse, take, drop, arith, inl, inr}
 use Rattle.std.proofs.lemmas.Int.{ints}
 use Rattle.std.proofs.lemmas.List.{length-map, length-reverse, length-take, length-drop, reverse-append, take-append-drop}
 use Rattle.sg_algebra.specs.Coefficients.{Each}
 use Rattle.sg_algebra.proofs.Value.{Value}
-use Rattle.sg_tower_theory.proofs.Nested.{NestedR}
-use Rattle.sg_tower_theory.proofs.Formal.{Formal, Element, elements, base, factors, repaired}
-use Rattle.sg_tower_theory.proofs.Flat.{Term, IsAfter, DescendingTerms, IsFlat, of_term, of_terms, exponent_of, without_first}
+use Rattle.sg_tower_theory.proofs.Formal.{Formal, Element, elements, factors, repaired}
+use Rattle.sg_tower_theory.proofs.Flat.{Term, IsAfter, DescendingTerms, IsFlat, of_term, of_terms}
 use Rattle.sg_value_theory.proofs.Elements.{Point, HasElement}
 use Rattle.sg_value_theory.proofs.Lists.{each-more}
 use Rattle.sg_value_theory.proofs.FlatValues.{Fits, Differ, all, AllFit, AllApart, Apart, HasFlat, flat-has}
@@ -47,9 +46,10 @@ module _ {d : ℕ} (αs : List (Value (suc d))) where
 
   after-first : (n : ℕ) (t u : Term d) (ts : List (Term d)) → Fits αs n (reverse t.exponents) → IsAfter (reverse t.exponents) (reverse u.exponents) → AllFit αs n (u ∷ ts) → DescendingTerms (u ∷ ts) → Each (Apart αs n t) (u ∷ ts)
   after-first n t u [] z a h i = (after-differ n (reverse t.exponents) (reverse u.exponents) z h.0 a, tt)
-  after-first n t u (w ∷ ts) z a h i =
-      (after-differ n (reverse t.exponents) (reverse u.exponents) z h.0 a,
-        after-first n t w ts z (after_trans (reverse t.exponents) (reverse u.exponents) (reverse w.exponents) a i.0) h.1 i.1)
+  after-first n t u (w ∷ ts) z a h i = (
+    after-differ n (reverse t.exponents) (reverse u.exponents) z h.0 a,
+    after-first n t w ts z (after_trans (reverse t.exponents) (reverse u.exponents) (reverse w.exponents) a i.0) h.1 i.1,
+  )
 
   pub descending-apart : (n : ℕ) (ts : List (Term d)) → AllFit αs n ts → DescendingTerms ts → AllApart αs n ts
   descending-apart n [] h i = tt

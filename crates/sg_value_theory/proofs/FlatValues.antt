@@ -6,26 +6,25 @@
 --   coefficient-has         where x has a value, each coefficient has one
 --   powers_at αs n p es     the product of the powers of the values at a point
 --   flat-has                the coefficients of a flat list have values, and the element that of the terms
-use Rattle.std.proofs.Common.{◌≡◌, ◌≢◌, ℕ, zero, suc, ◌<◌, ℤ, pos, negsuc, ◌≤ℤ◌, refl, sym, ap, ap₂, ◌∙◌, subst, List, [], ◌∷◌, length, reverse, arith, ◌⊎◌, inl, inr}
+use Rattle.std.proofs.Common.{◌≡◌, ◌≢◌, ℕ, zero, suc, ℤ, pos, negsuc, ◌≤ℤ◌, refl, sym, ap, ap₂, ◌∙◌, subst, List, [], ◌∷◌, length, reverse, arith, ◌⊎◌, inl, inr}
 use Rattle.std.proofs.lemmas.List.{length-reverse, reverse-reverse}
-use lib.IntN.{ℤ_discrete, suc_ℤ}
 use Rattle.sg_algebra.specs.Ring.{Ring, Domain}
 use Rattle.sg_algebra.specs.Coefficients.{coef, Each, eval}
 use Rattle.sg_algebra.proofs.Ring.{pow}
 use Rattle.sg_algebra.proofs.Solver.{ring, by, scale, reads}
 use Rattle.sg_algebra.proofs.PolynomialRing.{PolyR, X, coef-zip, cons_cong}
-use Rattle.sg_algebra.proofs.Value.{Value, ◌+ᵛ◌, ◌*ᵛ◌, inv_value, zero_value, one_value}
+use Rattle.sg_algebra.proofs.Value.{Value, ◌+ᵛ◌, ◌*ᵛ◌, zero_value, one_value}
 use Rattle.sg_algebra.proofs.ValueField.{ValueR, ValueF}
 use Rattle.sg_algebra.proofs.Place.{Pairwise}
 use Rattle.sg_algebra.proofs.Lists.{each_to}
 use Rattle.sg_tower_theory.specs.Powers.{power}
-use Rattle.sg_tower_theory.proofs.Laurent.{Laurent, LaurentR}
+use Rattle.sg_tower_theory.proofs.Laurent.{LaurentR}
 use Rattle.sg_tower_theory.proofs.LaurentCoefficients.{at, at_cong, fetch, up, term}
 use Rattle.sg_tower_theory.proofs.Products.{Exponents, listed, LaurentsD, LaurentsR, coefficient, coefficient_cong, coefficient-add, coefficient-none}
 use Rattle.sg_tower_theory.proofs.ProductSlices.{monomial, monomial-at, monomial-past}
-use Rattle.sg_tower_theory.proofs.Monomials.{one_term, one_term-is, exponents_of}
+use Rattle.sg_tower_theory.proofs.Monomials.{one_term, one_term-is}
 use Rattle.sg_tower_theory.proofs.Nested.{NestedR}
-use Rattle.sg_tower_theory.proofs.Formal.{Formal, Element, elements, base, factors}
+use Rattle.sg_tower_theory.proofs.Formal.{base, factors}
 use Rattle.sg_tower_theory.proofs.Flat.{Term, raised_to, term_in, exponent_of, without_first}
 use Rattle.sg_value_theory.proofs.Evaluation.{Evaluation, evaluation_of}
 use Rattle.sg_value_theory.proofs.Elements.{Point, IsQuotientAt, IsPolynomialAt, IsLaurentAt, HasLaurent, HasIn}
@@ -306,9 +305,11 @@ module _ {d : ℕ} (αs : List (Value (suc d))) where
     some-flat : (p : Point d) (ts : List (Term d)) → AllFit ts → Each (λ t. (w : Value d) × IsQuotientAt p.variable t.coefficient w) ts → (v : Value d) × HasFlat p ts v × HasIn αs n p (all ts) v
     some-flat p [] f h = (zero_value, refl, (evaluation_in αs n p).zero_has)
     some-flat p (t ∷ ts) f h =
-        let q = some-flat p ts f.1 h.1 in
-        (h.0.0 *ᵛ powers_at n p (reverse t.exponents) +ᵛ q.0, (h.0.0, q.0, h.0.1, q.1, refl),
-          (evaluation_in αs n p).add_has (one t) (all ts) (h.0.0 *ᵛ powers_at n p (reverse t.exponents)) q.0 (term-has n p (reverse t.exponents) t.coefficient h.0.0 f.0 h.0.1) q.2)
+        let q = some-flat p ts f.1 h.1 in (
+          h.0.0 *ᵛ powers_at n p (reverse t.exponents) +ᵛ q.0,
+          (h.0.0, q.0, h.0.1, q.1, refl),
+          (evaluation_in αs n p).add_has (one t) (all ts) (h.0.0 *ᵛ powers_at n p (reverse t.exponents)) q.0 (term-has n p (reverse t.exponents) t.coefficient h.0.0 f.0 h.0.1) q.2,
+        )
 
     pub flat-has : (p : Point d) (x : E.A) (ts : List (Term d)) (v : Value d) → AllFit ts → AllApart ts → E.◌≈◌ x (all ts) → HasIn αs n p x v → HasFlat p ts v
     flat-has p x ts v f apart same h =

@@ -3,18 +3,15 @@
 --   first_law          an element that isn't 0 has, from every place on, somewhere a value that isn't 0
 --   second_law         without products: an antidifference in values that is a quotient of elements gives a formal one
 --   differences        the values of a formal antidifference differ by those of what it is one of
-use Rattle.std.proofs.Common.{◌≡◌, ℕ, zero, suc, List, [], ◌∷◌, length, arith}
-use Rattle.sg_algebra.specs.Ring.{Ring, Domain, Hom}
+use Rattle.std.proofs.Common.{◌≡◌, ℕ, zero, suc, List, [], ◌∷◌}
 use Rattle.sg_algebra.proofs.Value.{Value, ◌-ᵛ◌}
-use Rattle.sg_algebra.proofs.ValueField.{ValueR, ValueF, ValueD}
-use Rattle.sg_tower_theory.proofs.Difference.{Difference, delta}
-use Rattle.sg_tower_theory.proofs.Lawful.{Lawful}
+use Rattle.sg_algebra.proofs.ValueField.{ValueF, ValueD}
+use Rattle.sg_tower_theory.proofs.Difference.{delta}
 use Rattle.sg_tower_theory.proofs.ShiftValue.{shift_valueH}
 use Rattle.sg_tower_theory.proofs.Nested.{NestedD, Shape, AreNew, tower}
 use Rattle.sg_tower_theory.proofs.Formal.{Formal, Element, elements, domain_of, shifted, base, base_shift, IndependentFactors, IsIndependent, lawful_at, lawful_formal}
 use Rattle.sg_value_theory.proofs.Elements.{Point, HasElement}
 use Rattle.sg_value_theory.proofs.Integral.{Integral, integral_field, integral_above}
-use Rattle.sg_value_theory.proofs.Places.{Places}
 use Rattle.sg_value_theory.proofs.First.{NonzeroAt, nonzero_at}
 use Rattle.sg_value_theory.proofs.Antidifferences.{IsQuotient, StepsBy, formal, value_of}
 use Rattle.sg_value_theory.proofs.FormalPlaces.{IsRun, places_along}

@@ -3,9 +3,8 @@
 --   variable_at          the variable goes up by one from point to point
 --   place_of, past       an element has values at all of them but finitely many
 --   places_along         so the values are places
-use Rattle.std.proofs.Common.{◌≡◌, ℕ, zero, suc, ◌+◌, ◌≤◌, ℤ, pos, ◌+ℤ◌, refl, sym, ap, ◌∙◌, subst, List, [], ◌∷◌, length, arith}
+use Rattle.std.proofs.Common.{◌≡◌, ℕ, zero, suc, ◌+◌, ◌≤◌, ℤ, pos, ◌+ℤ◌, refl, ◌∙◌, subst, List, [], ◌∷◌, length, arith}
 use Rattle.std.proofs.lemmas.Int.{ints}
-use Rattle.sg_algebra.specs.Ring.{Ring, Domain, Hom}
 use Rattle.sg_algebra.specs.Coefficients.{eval}
 use Rattle.sg_algebra.proofs.Ring.{pow}
 use Rattle.sg_algebra.proofs.PolynomialRing.{PolyR}
@@ -16,7 +15,6 @@ use Rattle.sg_tower_theory.proofs.Laurent.{LaurentR}
 use Rattle.sg_tower_theory.proofs.Products.{LaurentsD, LaurentsR}
 use Rattle.sg_tower_theory.proofs.Nested.{NestedR, Shape}
 use Rattle.sg_tower_theory.proofs.Formal.{Formal, Element, elements, shifted, base, factors}
-use Rattle.sg_value_theory.proofs.Evaluation.{Evaluation}
 use Rattle.sg_value_theory.proofs.Elements.{Point, HasLaurent, HasIn, HasElement, FollowsIn, Follows}
 use Rattle.sg_value_theory.proofs.Places.{Places}
 use Rattle.sg_value_theory.proofs.RationalPlaces.{rational_places}
@@ -44,14 +42,17 @@ module _ {d : ℕ} where
   laurent_past : (k0 : ℤ) (k n : ℕ) (ts : ℕ → Value d) (x : (LaurentsR (ValueF (suc d)) n).A) → laurent_from d k0 n x ≤ k → (v : Value d) × HasLaurent n (k0 +ℤ pos k) ts x v
   laurent_past k0 k zero ts x l = (rational_places d k0).has_past x k l
   laurent_past k0 k (suc n) ts x l =
-      let r = each_past (HasLaurent n (k0 +ℤ pos k) (λ i. ts (suc i))) (laurent_from d k0 n) k (λ y m. laurent_past k0 k n (λ i. ts (suc i)) y m) x.poly l in
-      (eval (ValueR d) r.0 (ts 0) *ᵛ pow (ValueR d) (inv_value (ts 0)) x.lag,
-      record {
-        upper = x.poly; lag = x.lag; same = (LaurentR (LaurentsD (ValueF (suc d)) n)).rfl;
-        upper_value = eval (ValueR d) r.0 (ts 0);
-        upper_has = record { coefficients = x.poly; values = r.0; same = (PolyR (LaurentsR (ValueF (suc d)) n)).rfl; each = r.1; value = refl };
-        value = refl;
-      })
+      let r = each_past (HasLaurent n (k0 +ℤ pos k) (λ i. ts (suc i))) (laurent_from d k0 n) k (λ y m. laurent_past k0 k n (λ i. ts (suc i)) y m) x.poly l in (
+        eval (ValueR d) r.0 (ts 0) *ᵛ pow (ValueR d) (inv_value (ts 0)) x.lag,
+        record {
+          upper = x.poly;
+          lag = x.lag;
+          same = (LaurentR (LaurentsD (ValueF (suc d)) n)).rfl;
+          upper_value = eval (ValueR d) r.0 (ts 0);
+          upper_has = record { coefficients = x.poly; values = r.0; same = (PolyR (LaurentsR (ValueF (suc d)) n)).rfl; each = r.1; value = refl };
+          value = refl;
+        },
+      )
 
   abbrev pub from_in : ℤ → (αs : List (Value (suc d))) (n : ℕ) → (NestedR (base αs) n).A → ℕ
   from_in k0 αs zero x = laurent_from d k0 (length (factors αs)) x

@@ -4,9 +4,9 @@
 --   agrees-raised      an element that agrees with an expression does so above
 --   agrees-own         the new sum agrees with its expression
 --   agrees-expressed   along a run, an element with the difference of a sum and its first value agrees with it
-use Rattle.std.proofs.Common.{◌≡◌, ℕ, zero, suc, ℤ, pos, ◌+ℤ◌, ◌-ℤ◌, ◌≤ℤ◌, refl, sym, ap, ap₂, ◌∙◌, subst, List, [], ◌∷◌, arith}
+use Rattle.std.proofs.Common.{◌≡◌, ℕ, suc, ℤ, pos, ◌+ℤ◌, ◌-ℤ◌, ◌≤ℤ◌, refl, subst, [], ◌∷◌, arith}
 use Rattle.std.proofs.lemmas.Int.{ints}
-use Rattle.sg_algebra.proofs.Solver.{ring, by, scale, reads}
+use Rattle.sg_algebra.proofs.Solver.{by, scale, reads}
 use Rattle.sg_algebra.proofs.Value.{Value, ◌+ᵛ◌, ◌-ᵛ◌, neg_value, one_value}
 use Rattle.sg_algebra.proofs.ValueField.{ValueR}
 use Rattle.sg_spec.specs.Tree.{Tree, sum_from}

@@ -1,17 +1,15 @@
 -- The value of an inverse.
 --   unit-has         of a unit pair the second has the inverse value, where that of the first isn't 0
-use Rattle.std.proofs.Common.{◌≡◌, ℕ, zero, suc, ℤ, pos, negsuc, neg_ℤ, ◌≤ℤ◌, refl, sym, ap, ap₂, ◌∙◌, subst, List, [], ◌∷◌, length, map, reverse, arith}
+use Rattle.std.proofs.Common.{◌≡◌, ℕ, zero, suc, ℤ, pos, negsuc, neg_ℤ, refl, sym, ap, ◌∙◌, subst, List, [], ◌∷◌, length, map, reverse, arith}
 use Rattle.std.proofs.lemmas.Int.{ints}
 use Rattle.std.proofs.lemmas.List.{length-map, length-reverse, reverse-reverse}
-use Rattle.sg_algebra.proofs.Ring.{pow}
 use Rattle.sg_algebra.proofs.Solver.{ring, by, scale, reads}
-use Rattle.sg_algebra.proofs.Value.{Value, ◌*ᵛ◌, ◌/ᵛ◌, neg_value, inv_value, zero_value, one_value}
+use Rattle.sg_algebra.proofs.Value.{Value, ◌*ᵛ◌, inv_value, zero_value, one_value}
 use Rattle.sg_algebra.proofs.ValueField.{ValueR, ValueF, value_mul-inv, value_quotient}
 use Rattle.sg_tower_theory.specs.Powers.{power}
 use Rattle.sg_tower_theory.proofs.Monomials.{one_term}
-use Rattle.sg_tower_theory.proofs.Formal.{Formal, Element, elements, base, factors, repaired}
+use Rattle.sg_tower_theory.proofs.Formal.{Formal, Element, elements, factors, repaired}
 use Rattle.sg_tower_theory.proofs.Flat.{term_in, unit_in, IsUnitPair}
-use Rattle.sg_value_theory.proofs.Evaluation.{Evaluation}
 use Rattle.sg_value_theory.proofs.Elements.{Point, IsQuotientAt, HasIn, HasElement}
 use Rattle.sg_value_theory.proofs.LaurentValues.{unit_pow}
 use Rattle.sg_value_theory.proofs.Evaluations.{evaluation_in}

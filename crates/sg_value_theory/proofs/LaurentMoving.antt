@@ -1,20 +1,19 @@
 -- One place further, with one product x going to α x.
 --   laurent-moves      what has a value one place further has it, shifted, here
-use Rattle.std.proofs.Common.{◌≡◌, ℕ, zero, suc, ◌+◌, refl, sym, ap, ap₂, ◌∙◌, subst, List, [], ◌∷◌}
+use Rattle.std.proofs.Common.{◌≡◌, ℕ, zero, suc, refl, sym, ap, ◌∙◌, List, [], ◌∷◌}
 use Rattle.sg_algebra.specs.Ring.{Ring, Domain, Hom}
-use Rattle.sg_algebra.specs.Coefficients.{eval, poly_mul}
-use Rattle.sg_algebra.proofs.Ring.{pow, pow-add}
+use Rattle.sg_algebra.specs.Coefficients.{eval}
+use Rattle.sg_algebra.proofs.Ring.{pow}
 use Rattle.sg_algebra.proofs.Solver.{ring, by, scale, reads}
-use Rattle.sg_algebra.proofs.Field.{product_ne}
-use Rattle.sg_algebra.proofs.PolynomialRing.{PolyR, X}
-use Rattle.sg_algebra.proofs.Value.{Value, ◌+ᵛ◌, ◌*ᵛ◌, neg_value, inv_value, zero_value, one_value}
-use Rattle.sg_algebra.proofs.ValueField.{ValueR, ValueD, value_mul-inv}
+use Rattle.sg_algebra.proofs.PolynomialRing.{PolyR}
+use Rattle.sg_algebra.proofs.Value.{Value, ◌*ᵛ◌, neg_value, inv_value, zero_value, one_value}
+use Rattle.sg_algebra.proofs.ValueField.{ValueR, value_mul-inv}
 use Rattle.sg_algebra.proofs.Place.{Pairwise}
-use Rattle.sg_tower_theory.proofs.Laurent.{Laurent, LaurentR, equal, constantsH}
+use Rattle.sg_tower_theory.proofs.Laurent.{Laurent, LaurentR}
 use Rattle.sg_tower_theory.proofs.LaurentShift.{scaledH, shifted, shiftedH}
 use Rattle.sg_value_theory.proofs.Evaluation.{Evaluation, pow_has}
 use Rattle.sg_value_theory.proofs.Elements.{IsPolynomialAt, IsLaurentAt}
-use Rattle.sg_value_theory.proofs.Polynomials.{raised, raised-constant, raised-variable, at_same, at_add, at_mul, at_zero}
+use Rattle.sg_value_theory.proofs.Polynomials.{raised, raised-constant, at_same, at_add, at_mul, at_zero}
 
 module _ (D : Domain) (σ : Hom D.R D.R) (α β : D.R.A) (unit : D.R.◌≈◌ (D.R.◌⊠◌ α β) D.R.I) {d : ℕ} (V V' : Evaluation D.R d) (moves : (x : D.R.A) (v : Value d) → V'.Has x v → V.Has (σ.on x) v)
     (t t' a b : Value d) (has_factor : V.Has α a) (has_inverse : V.Has β b) (grows : t' ≡ a *ᵛ t) (nonzero : ¬ (t ≡ zero_value)) (nonzero' : ¬ (t' ≡ zero_value)) where

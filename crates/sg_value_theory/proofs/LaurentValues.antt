@@ -1,21 +1,17 @@
 -- The values of Laurent polynomials in one product x, where x has a value t other than 0.
 --   laurent_values D V t n     they are an evaluation
 --   laurent-constant           an element of the domain has its own value
-use Rattle.std.proofs.Common.{◌≡◌, ℕ, zero, suc, ◌+◌, refl, sym, ap, ap₂, ◌∙◌, subst, List, [], ◌∷◌}
-use Rattle.sg_algebra.specs.Ring.{Ring, Domain, Hom}
-use Rattle.sg_algebra.specs.Coefficients.{eval, poly_mul}
+use Rattle.std.proofs.Common.{◌≡◌, ℕ, zero, suc, ◌+◌, refl, sym, ap, ap₂, ◌∙◌, List, [], ◌∷◌}
+use Rattle.sg_algebra.specs.Ring.{Ring, Domain}
 use Rattle.sg_algebra.proofs.Ring.{pow, pow-add}
 use Rattle.sg_algebra.proofs.Solver.{ring, by, scale, reads}
-use Rattle.sg_algebra.proofs.Field.{product_ne}
 use Rattle.sg_algebra.proofs.PolynomialRing.{PolyR, X}
 use Rattle.sg_algebra.proofs.Value.{Value, ◌+ᵛ◌, ◌*ᵛ◌, neg_value, inv_value, zero_value, one_value}
-use Rattle.sg_algebra.proofs.ValueField.{ValueR, ValueD, value_mul-inv}
-use Rattle.sg_algebra.proofs.Place.{Pairwise}
-use Rattle.sg_tower_theory.proofs.Laurent.{Laurent, LaurentR, equal, constantsH}
-use Rattle.sg_tower_theory.proofs.LaurentShift.{scaledH, shifted, shiftedH}
+use Rattle.sg_algebra.proofs.ValueField.{ValueR, value_mul-inv}
+use Rattle.sg_tower_theory.proofs.Laurent.{Laurent, LaurentR, constantsH}
 use Rattle.sg_value_theory.proofs.Evaluation.{Evaluation, pow_has}
-use Rattle.sg_value_theory.proofs.Elements.{IsPolynomialAt, IsLaurentAt}
-use Rattle.sg_value_theory.proofs.Polynomials.{raised, raised-constant, raised-variable, at_same, at_add, at_mul, at_zero}
+use Rattle.sg_value_theory.proofs.Elements.{IsLaurentAt}
+use Rattle.sg_value_theory.proofs.Polynomials.{raised, raised-constant, raised-variable, at_zero}
 
 module _ {d : ℕ} (t u : Value d) (tu : t *ᵛ u ≡ one_value) where
   pub unit_pow : (n : ℕ) → pow (ValueR d) t n *ᵛ pow (ValueR d) u n ≡ one_value

@@ -4,7 +4,7 @@
 --   ascending-more, up_to-all, up_to-more, up_to-new
 --   values-parts                                  the values of a list with one more expression
 --   values-unique                                 expressions have one value each
-use Rattle.std.proofs.Common.{◌≡◌, ℕ, zero, suc, ◌<◌, ◌≤◌, ℤ, refl, sym, ap, ap₂, ◌∙◌, subst, List, [], ◌∷◌, ◌++◌, length, map, get_or, nat_le, cond, true, false, arith}
+use Rattle.std.proofs.Common.{◌≡◌, ℕ, zero, suc, ◌<◌, ◌≤◌, ℤ, refl, ap, ap₂, ◌∙◌, List, [], ◌∷◌, ◌++◌, length, map, get_or, nat_le, cond, arith}
 use Rattle.std.proofs.lemmas.List.{get_or_append_left}
 use Rattle.std.proofs.Math.Seq.{get_or-append_seam}
 use Rattle.std.proofs.lemmas.Bool.{lt-leb, le-leb}

@@ -4,14 +4,13 @@
 use Rattle.std.proofs.Common.{◌≡◌, ℕ, zero, suc, ℤ, pos, ◌+ℤ◌, refl, sym, ap, ◌∙◌, subst, List, [], ◌∷◌, length}
 use Rattle.sg_algebra.specs.Ring.{Ring, Hom}
 use Rattle.sg_algebra.specs.Coefficients.{Each, eval}
-use Rattle.sg_algebra.proofs.Ring.{mul_O}
 use Rattle.sg_algebra.proofs.Solver.{ring, by, reads}
 use Rattle.sg_algebra.proofs.PolynomialRing.{PolyR}
 use Rattle.sg_algebra.proofs.Shift.{twist, twistH}
 use Rattle.sg_algebra.proofs.Value.{Value, ◌+ᵛ◌, ◌-ᵛ◌, ◌*ᵛ◌, ◌/ᵛ◌, inv_value, zero_value, one_value}
 use Rattle.sg_algebra.proofs.ValueField.{ValueR, ValueF}
 use Rattle.sg_algebra.proofs.Place.{Pairwise}
-use Rattle.sg_tower_theory.proofs.ShiftValue.{shift_valueH, rational_functions}
+use Rattle.sg_tower_theory.proofs.ShiftValue.{shift_valueH}
 use Rattle.sg_tower_theory.proofs.Products.{Some, LaurentsD, LaurentsR, lift, unit_lift, shift}
 use Rattle.sg_tower_theory.proofs.Nested.{NestedR, Shape, tower}
 use Rattle.sg_tower_theory.proofs.Formal.{Formal, Element, shifted, base, base_shift, factors, factors_some}

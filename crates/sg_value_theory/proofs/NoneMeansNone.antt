@@ -5,24 +5,23 @@
 --   telescopes_formally     where they do, it holds from a point on
 --   agrees_formally     expressions that agree from some point on have equal elements; `agree_from` the other way
 --   expressed_formally  an expression over the sums that agrees with one more sum makes what that sum grows by telescope
-use Rattle.std.proofs.Common.{◌≡◌, ℕ, zero, suc, ◌+◌, ◌<◌, ◌⊎◌, inl, inr, ℤ, pos, ◌+ℤ◌, ◌-ℤ◌, ◌≤ℤ◌, unsigned_abs, refl, sym, ap, ◌∙◌, subst, List, [], ◌∷◌, length, Contains, arith}
+use Rattle.std.proofs.Common.{◌≡◌, ℕ, suc, ◌<◌, ◌⊎◌, inl, inr, ℤ, pos, ◌+ℤ◌, ◌-ℤ◌, ◌≤ℤ◌, unsigned_abs, refl, subst, List, [], ◌∷◌, length, Contains, arith}
 use Rattle.std.proofs.lemmas.Int.{ints}
-use Rattle.sg_algebra.specs.Ring.{Ring, Domain, Hom}
+use Rattle.sg_algebra.specs.Ring.{Domain, Hom}
 use Rattle.sg_algebra.specs.Coefficients.{Each}
 use Rattle.sg_algebra.proofs.Place.{Pairwise}
-use Rattle.sg_algebra.proofs.Value.{Value, ◌+ᵛ◌, ◌-ᵛ◌}
+use Rattle.sg_algebra.proofs.Value.{Value, ◌-ᵛ◌}
 use Rattle.sg_algebra.proofs.ValueField.{ValueR}
-use Rattle.sg_algebra.proofs.Solver.{by, reads}
 use Rattle.sg_algebra.proofs.Rational.{whole_value, fraction_value-whole}
-use Rattle.sg_spec.specs.Tree.{Tree, here, sum_from}
+use Rattle.sg_spec.specs.Tree.{Tree, here}
 use Rattle.sg_spec.specs.Value.{val, SameValue}
 use Rattle.sg_spec.specs.Generators.{Over}
 use Rattle.sg_values.proofs.Worth.{Worth}
 use Rattle.sg_value_theory.specs.Telescoping.{Tele, Failing, Agree}
-use Rattle.sg_tower_theory.proofs.Difference.{Difference, delta}
+use Rattle.sg_tower_theory.proofs.Difference.{delta}
 use Rattle.sg_tower_theory.proofs.Lawful.{Lawful}
-use Rattle.sg_tower_theory.proofs.Formal.{Formal, Element, elements, domain_of, shifted, lifted, IsIndependent, lawful_formal}
-use Rattle.sg_value_theory.proofs.Elements.{Point, HasElement}
+use Rattle.sg_tower_theory.proofs.Formal.{Formal, Element, domain_of, shifted, lifted, IsIndependent, lawful_formal}
+use Rattle.sg_value_theory.proofs.Elements.{Point}
 use Rattle.sg_value_theory.proofs.TreeWorth.{HasWorth}
 use Rattle.sg_value_theory.proofs.TreePoints.{IsPointOf, Agrees}
 use Rattle.sg_value_theory.proofs.TowerOf.{IsTowerOf, IsFormallyNone, at_places}
@@ -33,7 +32,6 @@ use Rattle.sg_value_theory.proofs.Evaluations.{lifted-has}
 use Rattle.sg_value_theory.proofs.RationalPlaces.{variable, variable_at}
 use Rattle.sg_value_theory.proofs.FormalPlaces.{places_along}
 use Rattle.sg_value_theory.proofs.FormalLaws.{integral_formal}
-use Rattle.sg_value_theory.proofs.NumberParts.{HasNumber}
 use Rattle.sg_value_theory.proofs.Express.{Known}
 use Rattle.sg_value_theory.proofs.Joined.{none_in_values, tele_of_formal, failing, agree_formal, agree_same, same_agree}
 use Rattle.sg_value_theory.proofs.OwnSums.{contains_cons, nothing}

@@ -4,23 +4,16 @@
 --   both_parts, opposite_part, power_part    what has a value has parts that have one
 --   quotient_worth       a quotient has a value only where the divisor's isn't 0, and is that of the values
 --   pow-mul              a power of a product
-use Rattle.std.proofs.Common.{◌≡◌, ℕ, zero, suc, ◌+◌, ◌≤◌, refl, sym, ◌∙◌, ap, ap₂, List, [], ◌∷◌, ℤ, pos, negsuc, ◌+ℤ◌, Option, Some, None, Contains, arith}
-use Rattle.sg_algebra.specs.Ring.{Domain, Hom}
-use Rattle.sg_algebra.proofs.Ring.{nat, pow}
+use Rattle.std.proofs.Common.{◌≡◌, ℕ, zero, suc, refl, sym, ◌∙◌, ap, ap₂, [], ◌∷◌, ℤ, pos, negsuc, Option, Some, None}
+use Rattle.sg_algebra.proofs.Ring.{pow}
 use Rattle.sg_algebra.proofs.Solver.{ring, by, scale, reads}
-use Rattle.sg_algebra.proofs.Field.{product_ne}
-use Rattle.sg_algebra.proofs.Value.{Value, ◌+ᵛ◌, ◌*ᵛ◌, ◌/ᵛ◌, neg_value, zero_value, one_value}
-use Rattle.sg_algebra.proofs.ValueField.{ValueR, ValueD, value_is_zero, value_product}
-use Rattle.sg_algebra.proofs.Rational.{whole_value, fraction_value-whole, fraction_value-over, zero_fraction_value}
+use Rattle.sg_algebra.proofs.Value.{Value, ◌*ᵛ◌, ◌/ᵛ◌, zero_value}
+use Rattle.sg_algebra.proofs.ValueField.{ValueR, value_product}
+use Rattle.sg_algebra.proofs.Rational.{fraction_value-over, zero_fraction_value}
 use Rattle.sg_spec.specs.Fraction.{Fraction, over}
-use Rattle.sg_spec.specs.Tree.{Tree, numeral, here, param, add, neg, mul, div, power, sum_from, prod_from}
-use Rattle.sg_spec.specs.Value.{val, both, sum_of, product_of, quotient_of, unless_zero, opposite_of, power_of}
-use Rattle.sg_spec.specs.Generators.{Over}
-use Rattle.sg_values.proofs.Values.{IsProper, val-proper}
-use Rattle.sg_values.proofs.Worth.{number_of, Worth, worth-sum, worth-product, worth-opposite, worth-power}
-use Rattle.sg_tower_theory.proofs.Lawful.{Lawful}
-use Rattle.sg_value_theory.proofs.Places.{Places}
-use Rattle.sg_value_theory.proofs.First.{zero_only}
+use Rattle.sg_spec.specs.Value.{both, quotient_of, unless_zero, opposite_of, power_of}
+use Rattle.sg_values.proofs.Values.{IsProper}
+use Rattle.sg_values.proofs.Worth.{number_of, Worth}
 
 abbrev pub HasNumber : Option Fraction → Type 0
 HasNumber u = (v : Value 0) × Worth u v

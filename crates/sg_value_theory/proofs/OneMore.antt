@@ -1,27 +1,24 @@
 -- A tower that stands over the first sums stands over one more.
 --   free        the sum is new: the tower has one more sum
 --   expressed   it is expressed: an element agrees with it
-use Rattle.std.proofs.Common.{◌≡◌, ◌≢◌, ℕ, zero, suc, ◌+◌, ◌<◌, ◌≤◌, ◌==◌, ℤ, pos, ◌+ℤ◌, ◌-ℤ◌, ◌≤ℤ◌, refl, sym, ap, ap₂, ◌∙◌, subst, List, [], ◌∷◌, ◌++◌, length, map, get_or, cond, true, false, ◌⊎◌, inl, inr, arith}
+use Rattle.std.proofs.Common.{◌≡◌, ◌≢◌, ℕ, zero, suc, ◌+◌, ◌<◌, ◌≤◌, ◌==◌, ℤ, pos, ◌+ℤ◌, ◌-ℤ◌, ◌≤ℤ◌, refl, sym, ap, ◌∙◌, subst, List, [], ◌∷◌, ◌++◌, length, map, get_or, cond, true, false, ◌⊎◌, inl, inr, arith}
 use Rattle.std.proofs.lemmas.Int.{ints}
 use Rattle.std.proofs.lemmas.List.{get_or_append_left, get_or_push, get_or-map, length-map, length_push}
 use Rattle.std.proofs.lemmas.Bool.{eq-eqb}
 use Rattle.std.proofs.lemmas.Bool.Decides.{eqb_tells}
-use Rattle.sg_algebra.specs.Ring.{Ring, Hom}
 use Rattle.sg_algebra.specs.Coefficients.{Each}
-use Rattle.sg_algebra.proofs.Value.{Value, ◌+ᵛ◌}
-use Rattle.sg_algebra.proofs.PolynomialRing.{PolyR, constantH}
+use Rattle.sg_algebra.proofs.Value.{Value}
+use Rattle.sg_algebra.proofs.PolynomialRing.{constantH}
 use Rattle.sg_algebra.proofs.Place.{Pairwise}
 use Rattle.sg_spec.specs.Tree.{Tree, here, sum_from}
-use Rattle.sg_tower_theory.proofs.Difference.{Difference}
 use Rattle.sg_algebra.proofs.Lists.{each_to}
 use Rattle.sg_tower_theory.proofs.Slices.{pairwise_to, pairwise_length}
 use Rattle.sg_tower_theory.proofs.Nested.{NestedR}
 use Rattle.sg_tower_theory.proofs.Formal.{Formal, Element, elements, shifted, one_more, base, own_sum}
 use Rattle.sg_value_theory.proofs.TreeWorth.{HasWorth}
-use Rattle.sg_value_theory.proofs.Evaluation.{Evaluation}
 use Rattle.sg_value_theory.proofs.Elements.{Point, HasElement, Follows}
 use Rattle.sg_value_theory.proofs.TreePoints.{AreValues, IsPointOf, Agrees}
-use Rattle.sg_value_theory.proofs.TowerOf.{IsTowerOf, at_places, up_to, Ascending, HoldsBelow, HoldsIn}
+use Rattle.sg_value_theory.proofs.TowerOf.{IsTowerOf, at_places, up_to, HoldsBelow, HoldsIn}
 use Rattle.sg_value_theory.proofs.Evaluations.{evaluation}
 use Rattle.sg_value_theory.proofs.Moving.{moves}
 use Rattle.sg_value_theory.proofs.Growing.{sum-grows, follows-more, agrees-raised, agrees-own}

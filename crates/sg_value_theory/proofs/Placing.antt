@@ -1,13 +1,13 @@
 -- The element of an expression, part by part, at one place.
 --   AgreesAt x e       the element x has each value of the expression e
 --   agrees-..          it holds of a compound where it holds of its parts
-use Rattle.std.proofs.Common.{◌≡◌, ℕ, zero, suc, ℤ, pos, refl, sym, ap, ◌∙◌, subst, List, [], ◌∷◌}
+use Rattle.std.proofs.Common.{◌≡◌, ℕ, ℤ, sym, subst}
 use Rattle.sg_algebra.specs.Ring.{Ring}
 use Rattle.sg_algebra.proofs.Ring.{pow}
-use Rattle.sg_algebra.proofs.Value.{Value, ◌+ᵛ◌, ◌-ᵛ◌, ◌*ᵛ◌, ◌/ᵛ◌, neg_value, inv_value, zero_value, one_value}
+use Rattle.sg_algebra.proofs.Value.{Value, ◌+ᵛ◌, ◌*ᵛ◌, ◌/ᵛ◌, neg_value, inv_value, zero_value, one_value}
 use Rattle.sg_algebra.proofs.ValueField.{ValueR}
 use Rattle.sg_algebra.proofs.Rational.{whole_value}
-use Rattle.sg_spec.specs.Tree.{Tree, numeral, here, param, add, neg, mul, div, power, sum_from, prod_from}
+use Rattle.sg_spec.specs.Tree.{Tree, numeral, here, param, add, neg, mul, div, power}
 use Rattle.sg_value_theory.proofs.TreeWorth.{HasWorth}
 use Rattle.sg_value_theory.proofs.Evaluation.{Evaluation, pow_has}
 

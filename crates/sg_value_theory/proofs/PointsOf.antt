@@ -4,13 +4,13 @@
 --   point_at               the point at a place; `is-point`
 --   run                    from the start of a tower on these points are a run of it
 --   knowns                 along which each known element has the values of its sum, and so an element that agrees with an expression
-use Rattle.std.proofs.Common.{◌≡◌, ℕ, zero, suc, ℤ, pos, ◌+ℤ◌, ◌≤ℤ◌, refl, sym, ap, ◌∙◌, subst, List, [], ◌∷◌, length, map, get_or, arith}
+use Rattle.std.proofs.Common.{◌≡◌, ℕ, zero, suc, ℤ, pos, ◌+ℤ◌, ◌≤ℤ◌, refl, List, [], ◌∷◌, arith}
 use Rattle.std.proofs.lemmas.Int.{ints}
 use Rattle.sg_algebra.specs.Coefficients.{Each}
 use Rattle.sg_algebra.proofs.Value.{Value, ◌+ᵛ◌, zero_value, one_value}
 use Rattle.sg_algebra.proofs.ValueField.{value_one_ne}
 use Rattle.sg_algebra.proofs.Place.{Pairwise}
-use Rattle.sg_spec.specs.Tree.{Tree, here, sum_from}
+use Rattle.sg_spec.specs.Tree.{Tree, sum_from}
 use Rattle.sg_spec.specs.Value.{how_many}
 use Rattle.sg_tower_theory.proofs.Formal.{Formal, Element}
 use Rattle.sg_value_theory.proofs.TreeWorth.{IsFolded, HasWorth}

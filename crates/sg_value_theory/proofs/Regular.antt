@@ -1,7 +1,7 @@
 -- No poles, from the equation alone.
 --   regular_of        an antidifference of an element that has a value at every place has one at every place: downwards from where it has one
 --   regular_along     the same along a run of points of a formal tower
-use Rattle.std.proofs.Common.{◌≡◌, ℕ, zero, suc, ◌+◌, ◌≤◌, refl, [], ◌∷◌, arith}
+use Rattle.std.proofs.Common.{ℕ, zero, suc, ◌+◌, ◌≤◌, refl, [], ◌∷◌, arith}
 use Rattle.sg_algebra.specs.Ring.{Ring, Hom}
 use Rattle.sg_algebra.proofs.Solver.{by, reads}
 use Rattle.sg_algebra.proofs.Value.{Value}

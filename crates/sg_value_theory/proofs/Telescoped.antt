@@ -2,11 +2,10 @@
 --   Moves              an element that has a value one place further has it, shifted, here
 --   step               the values of an element that telescopes
 --   closed_by          where g telescopes an element with the values of f, and the tree h has the values of g shifted and a constant, h is a closed form of the sum of f
-use Rattle.std.proofs.Common.{◌≡◌, ℕ, zero, suc, ℤ, pos, ◌+ℤ◌, ◌-ℤ◌, ◌≤ℤ◌, refl, sym, ap, ap₂, ◌∙◌, subst, List, [], ◌∷◌, arith}
-use Rattle.std.proofs.lemmas.Int.{ints}
+use Rattle.std.proofs.Common.{◌≡◌, ℕ, zero, suc, ℤ, pos, ◌+ℤ◌, ◌-ℤ◌, ◌≤ℤ◌, refl, sym, ap, ◌∙◌, subst, List, [], ◌∷◌}
 use Rattle.sg_algebra.specs.Ring.{Ring}
-use Rattle.sg_algebra.proofs.Solver.{ring, by, scale, reads}
-use Rattle.sg_algebra.proofs.Value.{Value, ◌+ᵛ◌, ◌-ᵛ◌, neg_value, one_value}
+use Rattle.sg_algebra.proofs.Solver.{by, reads}
+use Rattle.sg_algebra.proofs.Value.{Value, ◌+ᵛ◌, ◌-ᵛ◌, neg_value}
 use Rattle.sg_algebra.proofs.ValueField.{ValueR}
 use Rattle.sg_spec.specs.Tree.{Tree, sum_from}
 use Rattle.sg_spec.specs.Generators.{sums, prods, start}
@@ -64,9 +63,11 @@ module _ (E : Ring) (shift : E.A → E.A) {d : ℕ} (at : ℕ → Evaluation E d
 
     -- at any depth: the plain sum is the value of the shifted element and the constant
     pub total_by : (j : ℕ) → (v : Value d) × (at j).Has (shift g) v × HasWorth letter (sum_from a f) (s +ℤ pos j) (v +ᵛ c)
-    total_by j =
-        (G (suc j), moves j g (G (suc j)) (g-has (suc j)),
-          total_closes letter f a s le F G u c before f-has steps (constant ∙ ap (λ v. u -ᵛ v) ((at 0).unique g v₀ (G 0) first (g-has 0))) j)
+    total_by j = (
+      G (suc j),
+      moves j g (G (suc j)) (g-has (suc j)),
+      total_closes letter f a s le F G u c before f-has steps (constant ∙ ap (λ v. u -ᵛ v) ((at 0).unique g v₀ (G 0) first (g-has 0))) j,
+    )
 
 module _ (E : Ring) (shift : E.A → E.A) (at : ℕ → Evaluation E 0) where
   -- the tree h has, from s on, the value of the shifted element and the constant

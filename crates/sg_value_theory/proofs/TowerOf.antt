@@ -6,7 +6,7 @@
 --   HoldsBelow f i x       x holds no sum from i on
 --   IsTowerOf letter s ps ss f places known    the tower f stands over the products ps and the sums of ss at the places, which are the free ones, and known are the elements of all the sums
 --   IsFormallyNone letter s ps ss e            in such a tower, in which each sum is new, nothing telescopes the element of e
-use Rattle.std.proofs.Common.{◌≡◌, ℕ, zero, suc, ◌+◌, ◌<◌, ◌≤◌, ℤ, pos, negsuc, ◌+ℤ◌, ◌-ℤ◌, ◌≤ℤ◌, cond, nat_le, List, [], ◌∷◌, ◌++◌, length, map, Contains, get_or}
+use Rattle.std.proofs.Common.{◌≡◌, ℕ, zero, suc, ◌<◌, ◌≤◌, ℤ, pos, negsuc, ◌+ℤ◌, ◌-ℤ◌, ◌≤ℤ◌, cond, nat_le, List, [], ◌∷◌, ◌++◌, length, map, Contains, get_or}
 use Rattle.sg_algebra.specs.Coefficients.{Each}
 use Rattle.sg_algebra.proofs.Value.{Value, zero_value}
 use Rattle.sg_algebra.proofs.Place.{Pairwise}

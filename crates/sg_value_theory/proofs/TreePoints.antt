@@ -3,7 +3,7 @@
 --   IsPointOf letter ps ss p      the products and sums have at p the values of the expressions ps and ss
 --   Agrees letter f p x e         the element x has at p each value of the expression e there
 --   Expresses letter f p x e      the expression e has at p each value of the element x there
-use Rattle.std.proofs.Common.{◌≡◌, ℕ, zero, suc, ℤ, List, [], ◌∷◌}
+use Rattle.std.proofs.Common.{ℕ, suc, ℤ, List, [], ◌∷◌}
 use Rattle.sg_algebra.proofs.Value.{Value}
 use Rattle.sg_spec.specs.Tree.{Tree}
 use Rattle.sg_tower_theory.proofs.Formal.{Formal, Element}

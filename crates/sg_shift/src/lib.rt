@@ -1,0 +1,2 @@
+//! The shift of rational functions. It has no code.
+#![tactic(auto)]

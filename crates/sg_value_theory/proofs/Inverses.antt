@@ -52,7 +52,7 @@ module _ {d : ℕ} where
   unit-powers zero p es = ap (units_value p.products) (reverse-reverse es)
   unit-powers (suc n) p es = ap (◌*ᵛ◌ one_value) (unit-powers n p es) ∙ ring (ValueR d) (units_value p.products es ∷ []) (search reads depth 12) refl
 
-  has-unit : (αs : List (Value (suc d))) (n : ℕ) (p : Point d) (es : List ℤ) (c : Value (suc d)) (v : Value d) → length es ≡ length (factors αs) → IsQuotientAt p.variable c v → HasIn αs n p (unit_in αs n es c) (v *ᵛ units_value p.products es)
+  pub has-unit : (αs : List (Value (suc d))) (n : ℕ) (p : Point d) (es : List ℤ) (c : Value (suc d)) (v : Value d) → length es ≡ length (factors αs) → IsQuotientAt p.variable c v → HasIn αs n p (unit_in αs n es c) (v *ᵛ units_value p.products es)
   has-unit αs n p es c v l h =
       subst (λ x. HasIn αs n p x (v *ᵛ units_value p.products es)) (sym (unit-term αs n es c))
       (subst (HasIn αs n p (term_in αs n (zeros_before n (reverse es)) c)) (ap (◌*ᵛ◌ v) (unit-powers n p es)) (term-has αs n p (zeros_before n (reverse es)) c v (unit-fits αs n es l) h))
@@ -64,7 +64,7 @@ module _ {d : ℕ} where
       let i = subst (λ (x : Value (suc d)). IsQuotientAt p.variable x q.0) (ap (coef_in αs n (zeros_before n (reverse es))) (unit-term αs n es c) ∙ coef_in-term αs n (zeros_before n (reverse es)) c (unit-fits αs n es l)) q.1 in
       (q.0, i, (evaluation_in αs n p).unique (unit_in αs n es c) w (q.0 *ᵛ units_value p.products es) h (has-unit αs n p es c q.0 l i))
 
-  inverse-is : (a b : Value d) → ¬ (a ≡ zero_value) → b *ᵛ a ≡ one_value → b ≡ inv_value a
+  pub inverse-is : (a b : Value d) → ¬ (a ≡ zero_value) → b *ᵛ a ≡ one_value → b ≡ inv_value a
   inverse-is a b n h = value_quotient one_value a b n h ∙ ring (ValueR d) (inv_value a ∷ []) (search reads depth 12) refl
 
   pub unit-has : (f : Formal d) (p : Point d) (x y : Element f) (w : Value d) → IsUnitPair f x y → HasElement f p x w → ¬ (w ≡ zero_value) → HasElement f p y (inv_value w)

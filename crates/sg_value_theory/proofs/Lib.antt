@@ -44,3 +44,4 @@ pub mod NumberWorths
 pub mod FlatValues
 pub mod FlatTerms
 pub mod Inverses
+pub mod OverProducts

@@ -1,0 +1,16 @@
+-- Terms of elements.
+--   part_at i p        the term without the last i sums
+--   own_terms p        its terms without any sum
+--   IsRun i e ps n     after a term with the power e of the sum at i, the first n of the terms ps have it too, and no more
+use Rattle.std.specs.Prelude.{◌≡◌, ℕ, suc, List, [], ◌∷◌, map, drop, take}
+use Rattle.sg_written.specs.Canonical.{Written, Signed, of_coefficient, lower_factors, first_power, groups, plane_of}
+use Rattle.sg_canonical.specs.declared.element.Part.{Part}
+
+abbrev pub part_at : ℕ → Part → Written
+part_at i p = record { powers = drop i p.powers; exponents = []; upper = plane_of p.quotient.upper; lower = plane_of p.quotient.lower }
+
+abbrev pub own_terms : Part → List Signed
+own_terms p = of_coefficient (plane_of p.quotient.upper) [] (lower_factors (plane_of p.quotient.lower))
+
+abbrev pub IsRun : ℕ → ℕ → List Part → ℕ → Type 0
+IsRun i e parts n = (p : Part) → first_power (drop i p.powers) ≡ e → groups (map (part_at i) (p ∷ parts)) ≡ (e, map (part_at (suc i)) (p ∷ take n parts)) ∷ groups (map (part_at i) (drop n parts))

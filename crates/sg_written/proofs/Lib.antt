@@ -1,0 +1,9 @@
+pub mod Worths
+pub mod Closes
+pub mod WrittenTerms
+pub mod WrittenElements
+pub mod Building
+pub mod Planes
+pub mod OneTerm
+pub mod PlainCanonical
+pub mod CanonicalExamples

@@ -1,0 +1,23 @@
+pub mod Ends
+pub mod Difference
+pub mod QuotientShift
+pub mod ShiftValue
+pub mod Above
+pub mod Degrees
+pub mod RationalConstants
+pub mod Combination
+pub mod Nested
+pub mod Lawful
+pub mod Laurent
+pub mod LaurentCoefficients
+pub mod LaurentShift
+pub mod OneProduct
+pub mod Products
+pub mod Slices
+pub mod PowerSlices
+pub mod Starting
+pub mod ProductSlices
+pub mod Monomials
+pub mod Formal
+pub mod Flat
+mod TowerExamples

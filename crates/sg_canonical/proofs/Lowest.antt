@@ -19,7 +19,7 @@ use Rattle.sg_canonical.proofs.Writing.{both_ne}
 use Rattle.sg_written.proofs.Planes.{V, N, S, constants, unit-number, plane-is, entries-is}
 use Rattle.sg_canonical.proofs.WholeQuotients.{whole-same}
 use Rattle.std.proofs.lemmas.Int.{ints}
-use Rattle.sg_written.specs.Canonical.{IsLowest, Planes, plane_polynomial, entries, leading, content, plane_of}
+use Rattle.sg_spec.specs.Canonical.{IsLowest, Planes, plane_polynomial, entries, leading, content, plane_of}
 use Rattle.sg_canonical.specs.Whole.{IsWholeQuotient, wholes, scaled}
 
 -- ---- Constants in the parameter

@@ -33,8 +33,8 @@ use Rattle.sg_poly.specs.Divisors.{IsMonic}
 use Rattle.sg_theory.proofs.ValueCertificate.{monic_length}
 use Rattle.sg_ratfun.specs.Reduced.{IsReduced}
 use Rattle.sg_ratfun.proofs.Coprimes.{lowest_parts}
-use Rattle.sg_written.specs.Canonical.{Written, IsLowest, IsCanonicalOver, element_tree, plane_of, leading}
-use Rattle.sg_written.specs.Worth.{HasWorth}
+use Rattle.sg_spec.specs.Canonical.{Written, IsLowest, IsCanonicalOver, element_tree, plane_of, leading}
+use Rattle.sg_spec.specs.Worth.{HasWorth}
 use Rattle.sg_written.proofs.Building.{NoParameter, over-element, element-form}
 use Rattle.sg_written.proofs.WrittenElements.{plane_value, HasTerms, element-worth}
 use Rattle.sg_canonical.specs.Rational.{quotient_terms, IsRationalTree}

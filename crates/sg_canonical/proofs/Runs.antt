@@ -9,7 +9,7 @@ use Rattle.std.proofs.Math.Seq.{drop-nil}
 use Rattle.sg_spec.specs.Tree.{Tree}
 use Rattle.sg_expr.specs.Tree.{tree_of}
 use Rattle.sg_expr.specs.declared.tree.Expr.{Expr}
-use Rattle.sg_written.specs.Canonical.{Written, Signed, of_coefficient, lower_factors, term_of, joined, first_power, later_powers, without, before_groups, groups, raised, signed_terms, plane_of}
+use Rattle.sg_spec.specs.Canonical.{Written, Signed, of_coefficient, lower_factors, term_of, joined, first_power, later_powers, without, before_groups, groups, raised, signed_terms, plane_of}
 use Rattle.sg_canonical.specs.declared.element.Part.{Part}
 use Rattle.sg_canonical.specs.Parts.{part_at, own_terms, IsRun}
 use Rattle.sg_canonical.specs.declared.signs.Signed.{Signed as Kept}

@@ -1,7 +1,7 @@
 -- Turned signs.
 --   grouped-total     all terms with the other sign, where the first is below 0
 use Rattle.std.proofs.Common.{◌≡◌, Bool, true, false, cond, not, ℤ, neg_ℤ, refl, ap, ap₂, List, [], ◌∷◌, map}
-use Rattle.sg_written.specs.Canonical.{Signed, turned, negated, plane_of}
+use Rattle.sg_spec.specs.Canonical.{Signed, turned, negated, plane_of}
 use Rattle.sg_canonical.specs.declared.signs.Signed.{Signed as Kept}
 use Rattle.sg_canonical.specs.Signs.{signed_of, turned_if}
 

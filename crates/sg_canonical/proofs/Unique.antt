@@ -9,7 +9,7 @@ use Rattle.sg_algebra.specs.Divisor.{gcd}
 use Rattle.sg_algebra.proofs.Divisor.{gcd-scaled, gcd_from_IsGcd}
 use Rattle.sg_algebra.proofs.Rational.{whole_value}
 use Rattle.sg_algebra.proofs.Value.{Value, ◌*ᵛ◌, zero_value}
-use Rattle.sg_written.specs.Canonical.{content, leading, plane_of}
+use Rattle.sg_spec.specs.Canonical.{content, leading, plane_of}
 use Rattle.sg_canonical.specs.Whole.{IsWholeQuotient, wholes, scaled}
 use Rattle.sg_canonical.proofs.CommonDenominator.{wholes-times, reverse-scaled}
 use Rattle.sg_canonical.proofs.WholeQuotients.{whole-same}

@@ -14,7 +14,7 @@ use Rattle.sg_algebra.proofs.Rational.{whole_value}
 use Rattle.sg_algebra.proofs.Solver.{ring, by, scale, reads}
 use Rattle.sg_algebra.proofs.Value.{Value, ◌+ᵛ◌, ◌*ᵛ◌, ◌/ᵛ◌, inv_value, zero_value, one_value}
 use Rattle.sg_algebra.proofs.ValueField.{ValueR, ValueD, value_mul-inv, value_one_ne}
-use Rattle.sg_written.specs.Canonical.{leading, plane_of}
+use Rattle.sg_spec.specs.Canonical.{leading, plane_of}
 use Rattle.sg_algebra.proofs.Field.{product_ne}
 use Rattle.sg_written.proofs.WrittenElements.{row_value, plane_value}
 use Rattle.sg_canonical.specs.Whole.{IsWholeQuotient, wholes, scaled, at, quotient_at}

@@ -3,7 +3,7 @@
 --   own_terms p        its terms without any sum
 --   IsRun i e ps n     after a term with the power e of the sum at i, the first n of the terms ps have it too, and no more
 use Rattle.std.specs.Prelude.{◌≡◌, ℕ, suc, List, [], ◌∷◌, map, drop, take}
-use Rattle.sg_written.specs.Canonical.{Written, Signed, of_coefficient, lower_factors, first_power, groups, plane_of}
+use Rattle.sg_spec.specs.Canonical.{Written, Signed, of_coefficient, lower_factors, first_power, groups, plane_of}
 use Rattle.sg_canonical.specs.declared.element.Part.{Part}
 
 abbrev pub part_at : ℕ → Part → Written

@@ -6,7 +6,7 @@ use Rattle.sg_algebra.proofs.Polynomial.{EndsNonzero}
 use Rattle.sg_algebra.proofs.Value.{Value, over_value}
 use Rattle.sg_spec.specs.Tree.{Tree}
 use Rattle.sg_ratfun.specs.Reduced.{IsReduced}
-use Rattle.sg_written.specs.Canonical.{Written, element_tree, plane_of}
+use Rattle.sg_spec.specs.Canonical.{Written, element_tree, plane_of}
 use Rattle.sg_canonical.specs.Whole.{IsWholeQuotient}
 
 abbrev pub quotient_terms : List ℤ → List ℤ → List Written

@@ -3,7 +3,7 @@
 --   turned_if turn s   with the other sign, where `turn` says so
 use Rattle.std.specs.Prelude.{Bool, not, cond, map}
 use Rattle.sg_expr.specs.Tree.{tree_of}
-use Rattle.sg_written.specs.Canonical.{Signed}
+use Rattle.sg_spec.specs.Canonical.{Signed}
 use Rattle.sg_canonical.specs.declared.signs.Signed.{Signed as Kept}
 
 abbrev pub signed_of : Kept → Signed

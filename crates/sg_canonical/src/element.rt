@@ -1,7 +1,7 @@
 ghost use Rattle.std.specs.Prelude.{◌≡◌, ◌≢◌, ◌+◌, ◌<◌, ◌≤◌, ◌==◌, ◌∷◌, ◌++◌, [], pos, length, map, All, IfOk, IfErr, OnOk, reverse};
 ghost use Rattle.sg_num.specs.Stopped.{KeepsWideStep};
 ghost use Rattle.sg_expr.specs.Tree.{tree_of};
-ghost use Rattle.sg_written.specs.Canonical.{raised, raised_factor, with_upper, grouped, joined, signed_terms, element_tree};
+ghost use Rattle.sg_spec.specs.Canonical.{raised, raised_factor, with_upper, grouped, joined, signed_terms, element_tree};
 ghost use Rattle.sg_canonical.specs.Signs.{signed_of};
 ghost use Rattle.sg_canonical.specs.Parts.{part_at, own_terms, IsRun};
 

@@ -1,7 +1,7 @@
 ghost use Rattle.std.specs.Prelude.{◌≡◌, ◌≢◌, ◌∷◌, [], map, IfOk};
 ghost use Rattle.sg_expr.specs.Tree.{tree_of};
 ghost use Rattle.sg_spec.specs.Tree.{Tree, neg, mul, div, add};
-ghost use Rattle.sg_written.specs.Canonical.{times_all, over_all, above, raised_factor, with_sign};
+ghost use Rattle.sg_spec.specs.Canonical.{times_all, over_all, above, raised_factor, with_sign};
 
 use sg_expr::Expr;
 use sg_num::Row;

@@ -1,7 +1,7 @@
 ghost use Rattle.std.specs.Prelude.{◌≡◌, ◌≢◌, ◌∷◌, ◌++◌, [], pos, ◌<ℤ◌, unsigned_abs, cond, map, IfOk, IfErr, OnOk};
 ghost use Rattle.sg_num.specs.Stopped.{KeepsWideStep};
 ghost use Rattle.sg_expr.specs.Tree.{tree_of};
-ghost use Rattle.sg_written.specs.Canonical.{monomial, monomials, monomial_terms, plain_term, polynomial_tree, leads_below, negated, lower_factors, one_term, of_coefficient, plane_of};
+ghost use Rattle.sg_spec.specs.Canonical.{monomial, monomials, monomial_terms, plain_term, polynomial_tree, leads_below, negated, lower_factors, one_term, of_coefficient, plane_of};
 ghost use Rattle.sg_canonical.specs.Signs.{signed_of};
 
 use crate::factors::{above, factor};

@@ -7,8 +7,8 @@ ghost use Rattle.sg_expr.specs.Tree.{tree_of};
 ghost use Rattle.sg_ratfun.specs.Reduced.{IsReduced};
 ghost use Rattle.sg_spec.specs.Generators.{Over};
 ghost use Rattle.sg_spec.specs.Printing.{InForm};
-ghost use Rattle.sg_written.specs.Canonical.{IsCanonicalOver, element_tree};
-ghost use Rattle.sg_written.specs.Worth.{HasWorth};
+ghost use Rattle.sg_spec.specs.Canonical.{IsCanonicalOver, element_tree};
+ghost use Rattle.sg_spec.specs.Worth.{HasWorth};
 ghost use Rattle.sg_canonical.specs.Rational.{quotient_terms, IsRationalTree};
 ghost use Rattle.sg_canonical.specs.Whole.{at, quotient_at};
 

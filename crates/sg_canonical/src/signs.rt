@@ -1,6 +1,6 @@
 ghost use Rattle.std.specs.Prelude.{◌≡◌, ◌∷◌, [], map, IfOk, Bool};
 ghost use Rattle.sg_expr.specs.Tree.{tree_of};
-ghost use Rattle.sg_written.specs.Canonical.{unsigned_tree, signed_tree, added, total_tree};
+ghost use Rattle.sg_spec.specs.Canonical.{unsigned_tree, signed_tree, added, total_tree};
 ghost use Rattle.sg_canonical.specs.Signs.{signed_of, turned_if};
 
 use crate::factors::{above, over_all, plus, with_sign};

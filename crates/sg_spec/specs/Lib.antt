@@ -12,3 +12,8 @@ pub mod Plain
 pub mod Parameter
 pub mod Steps
 pub mod Printing
+pub mod Parts
+pub mod Faults
+pub mod Worth
+pub mod Canonical
+pub mod Telescoping

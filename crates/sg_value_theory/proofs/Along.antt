@@ -11,11 +11,11 @@ use Rattle.sg_spec.specs.Tree.{Tree, sum_from}
 use Rattle.sg_values.proofs.Totals.{from_on}
 use Rattle.sg_tower_theory.proofs.Difference.{delta}
 use Rattle.sg_tower_theory.proofs.Formal.{Formal, Element, elements, shifted}
-use Rattle.sg_value_theory.proofs.TreeWorth.{HasWorth}
+use Rattle.sg_spec.specs.Worth.{HasWorth}
 use Rattle.sg_value_theory.proofs.Elements.{Point, HasElement}
 use Rattle.sg_value_theory.proofs.TreePoints.{IsPointOf, Agrees}
 use Rattle.sg_value_theory.proofs.TowerOf.{IsTowerOf, at_places}
-use Rattle.sg_value_theory.proofs.Worths.{worth_unique}
+use Rattle.sg_written.proofs.Worths.{worth_unique}
 use Rattle.sg_value_theory.proofs.Evaluations.{evaluation, constant-has}
 use Rattle.sg_value_theory.proofs.Regular.{regular_along}
 use Rattle.sg_value_theory.proofs.PointsOf.{HasValues, HasUnits, sum_worth, points, points-late, points-are, next-place, run}

@@ -9,14 +9,14 @@ use Rattle.sg_spec.specs.Generators.{sums, prods, start}
 use Rattle.sg_spec.specs.Closed.{Closed, IsOverOwn}
 use Rattle.sg_tower_theory.proofs.Difference.{delta}
 use Rattle.sg_tower_theory.proofs.Formal.{Formal, Element, elements, shifted}
-use Rattle.sg_value_theory.proofs.TreeWorth.{HasWorth}
+use Rattle.sg_spec.specs.Worth.{HasWorth}
 use Rattle.sg_value_theory.proofs.Elements.{Point, HasElement}
 use Rattle.sg_value_theory.proofs.TreePoints.{IsPointOf, Agrees, Expresses}
 use Rattle.sg_value_theory.proofs.TowerOf.{IsTowerOf, at_places}
 use Rattle.sg_value_theory.proofs.Evaluations.{evaluation}
 use Rattle.sg_value_theory.proofs.Moving.{moves}
 use Rattle.sg_value_theory.proofs.Regular.{regular_along}
-use Rattle.sg_value_theory.proofs.Closes.{no_letter}
+use Rattle.sg_written.proofs.Closes.{no_letter}
 use Rattle.sg_value_theory.proofs.Telescoped.{closed_by}
 use Rattle.sg_value_theory.proofs.PointsOf.{HasValues, HasUnits, points, points-late, points-are, run}
 use Rattle.sg_value_theory.proofs.Alike.{alike}

@@ -13,7 +13,7 @@ use Rattle.sg_values.proofs.Totals.{from_on, total-step}
 use Rattle.sg_values.proofs.Values.{IsProper, val-proper}
 use Rattle.sg_values.proofs.Worth.{number_of, Worth, worth_same, same_worth, worth-sum, worth-opposite}
 use Rattle.sg_value_theory.proofs.NumberParts.{HasNumber, number_unique, both_parts}
-use Rattle.sg_value_theory.specs.Telescoping.{difference_of, Tele}
+use Rattle.sg_spec.specs.Telescoping.{difference_of, Tele}
 use Rattle.sg_value_theory.proofs.Joined.{worth-difference, difference_proper}
 
 module _ (a : ℤ) (body : Tree) where

@@ -12,11 +12,11 @@ use Rattle.sg_algebra.proofs.ValueField.{ValueR}
 use Rattle.sg_spec.specs.Tree.{Tree, sum_from}
 use Rattle.sg_tower_theory.proofs.Difference.{delta}
 use Rattle.sg_tower_theory.proofs.Formal.{Formal, Element, elements, shifted, one_more}
-use Rattle.sg_value_theory.proofs.TreeWorth.{HasWorth}
+use Rattle.sg_spec.specs.Worth.{HasWorth}
 use Rattle.sg_value_theory.proofs.Elements.{Point, HasElement, Follows}
 use Rattle.sg_value_theory.proofs.TreePoints.{Agrees}
-use Rattle.sg_value_theory.proofs.Worths.{worth_unique}
-use Rattle.sg_value_theory.proofs.Closes.{sum_step}
+use Rattle.sg_written.proofs.Worths.{worth_unique}
+use Rattle.sg_written.proofs.Closes.{sum_step}
 use Rattle.sg_value_theory.proofs.Evaluations.{evaluation}
 use Rattle.sg_value_theory.proofs.Polynomials.{raised-constant, raised-variable}
 use Rattle.sg_value_theory.proofs.Moving.{moves}

@@ -22,12 +22,9 @@ pub mod Express
 pub mod Joined
 pub mod RationalTexts
 pub mod Regular
-pub mod TreeWorth
-pub mod Worths
 pub mod TreePoints
 pub mod TowerOf
 pub mod PointsOf
-pub mod Closes
 pub mod Placing
 pub mod Telescoped
 pub mod Growing

@@ -12,10 +12,10 @@ use Rattle.sg_algebra.specs.Coefficients.{Each}
 use Rattle.sg_algebra.proofs.Value.{Value}
 use Rattle.sg_algebra.proofs.Place.{Pairwise}
 use Rattle.sg_spec.specs.Tree.{Tree, here}
-use Rattle.sg_value_theory.proofs.TreeWorth.{HasWorth}
+use Rattle.sg_spec.specs.Worth.{HasWorth}
 use Rattle.sg_value_theory.proofs.TreePoints.{AreValues}
 use Rattle.sg_value_theory.proofs.TowerOf.{at_places, up_to, Ascending}
-use Rattle.sg_value_theory.proofs.Worths.{worth_unique}
+use Rattle.sg_written.proofs.Worths.{worth_unique}
 
 pub each-more : {C : Type 0} (P : C → Type 0) (xs : List C) (y : C) → Each P xs → P y → Each P (xs ++ y ∷ [])
 each-more P [] y h p = (p, tt)

@@ -17,16 +17,16 @@ use Rattle.sg_spec.specs.Tree.{Tree, here}
 use Rattle.sg_spec.specs.Value.{val, SameValue}
 use Rattle.sg_spec.specs.Generators.{Over}
 use Rattle.sg_values.proofs.Worth.{Worth}
-use Rattle.sg_value_theory.specs.Telescoping.{Tele, Failing, Agree}
+use Rattle.sg_spec.specs.Telescoping.{Tele, Failing, Agree}
 use Rattle.sg_tower_theory.proofs.Difference.{delta}
 use Rattle.sg_tower_theory.proofs.Lawful.{Lawful}
 use Rattle.sg_tower_theory.proofs.Formal.{Formal, Element, domain_of, shifted, lifted, IsIndependent, lawful_formal}
 use Rattle.sg_value_theory.proofs.Elements.{Point}
-use Rattle.sg_value_theory.proofs.TreeWorth.{HasWorth}
+use Rattle.sg_spec.specs.Worth.{HasWorth}
 use Rattle.sg_value_theory.proofs.TreePoints.{IsPointOf, Agrees}
 use Rattle.sg_value_theory.proofs.TowerOf.{IsTowerOf, IsFormallyNone, at_places}
-use Rattle.sg_value_theory.proofs.Worths.{worth_number}
-use Rattle.sg_value_theory.proofs.Closes.{no_letter}
+use Rattle.sg_written.proofs.Worths.{worth_number}
+use Rattle.sg_written.proofs.Closes.{no_letter}
 use Rattle.sg_value_theory.proofs.Places.{Places}
 use Rattle.sg_value_theory.proofs.Evaluations.{lifted-has}
 use Rattle.sg_value_theory.proofs.RationalPlaces.{variable, variable_at}

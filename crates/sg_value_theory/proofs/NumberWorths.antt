@@ -11,9 +11,9 @@ use Rattle.sg_spec.specs.Tree.{Tree, numeral, here, param, add, neg, mul, div, p
 use Rattle.sg_spec.specs.Value.{val, both, sum_of, product_of, quotient_of, folded, how_many}
 use Rattle.sg_values.proofs.Values.{IsProper, val-proper}
 use Rattle.sg_values.proofs.Worth.{Worth, number_of, worth-sum, worth-product, worth-opposite, worth-power}
-use Rattle.sg_value_theory.proofs.TreeWorth.{IsFolded, HasWorth}
+use Rattle.sg_spec.specs.Worth.{IsFolded, HasWorth}
 use Rattle.sg_value_theory.proofs.NumberParts.{HasNumber, number_unique, both_parts, opposite_part, power_part, quotient_worth}
-use Rattle.sg_value_theory.proofs.Worths.{sums_proper, products_proper}
+use Rattle.sg_written.proofs.Worths.{sums_proper, products_proper}
 
 module _ (op : Fraction → Fraction → Option Fraction) (plus : Value 0 → Value 0 → Value 0) (start : Fraction) (unit : Value 0) (term : ℤ → Option Fraction) (Term : ℤ → Value 0 → Type 0)
     (joins : (u w : Option Fraction) (v t : Value 0) → IsProper u → IsProper w → Worth u v → Worth w t → Worth (both op u w) (plus v t))

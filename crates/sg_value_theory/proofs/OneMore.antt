@@ -15,7 +15,7 @@ use Rattle.sg_algebra.proofs.Lists.{each_to}
 use Rattle.sg_tower_theory.proofs.Slices.{pairwise_to, pairwise_length}
 use Rattle.sg_tower_theory.proofs.Nested.{NestedR}
 use Rattle.sg_tower_theory.proofs.Formal.{Formal, Element, elements, shifted, one_more, base, own_sum}
-use Rattle.sg_value_theory.proofs.TreeWorth.{HasWorth}
+use Rattle.sg_spec.specs.Worth.{HasWorth}
 use Rattle.sg_value_theory.proofs.Elements.{Point, HasElement, Follows}
 use Rattle.sg_value_theory.proofs.TreePoints.{AreValues, IsPointOf, Agrees}
 use Rattle.sg_value_theory.proofs.TowerOf.{IsTowerOf, at_places, up_to, HoldsBelow, HoldsIn}

@@ -25,10 +25,10 @@ use Rattle.sg_tower_theory.proofs.Flat.{unit_in}
 use Rattle.sg_value_theory.proofs.Evaluation.{Evaluation, pow_has}
 use Rattle.sg_value_theory.proofs.Elements.{Point, IsQuotientAt, HasElement}
 use Rattle.sg_value_theory.proofs.Quotients.{quotients, quotient-constant}
-use Rattle.sg_value_theory.proofs.TreeWorth.{HasWorth}
+use Rattle.sg_spec.specs.Worth.{HasWorth}
 use Rattle.sg_value_theory.proofs.TreePoints.{AreValues, IsPointOf, Agrees}
 use Rattle.sg_value_theory.proofs.TowerOf.{BuiltOver, IsTowerOf, at_places}
-use Rattle.sg_value_theory.proofs.Worths.{worth_unique}
+use Rattle.sg_written.proofs.Worths.{worth_unique}
 use Rattle.sg_value_theory.proofs.RationalPlaces.{whole_at, variable, variable_at}
 use Rattle.sg_value_theory.proofs.Evaluations.{evaluation, lifted-has}
 use Rattle.sg_value_theory.proofs.Moving.{inverse-has}

@@ -11,7 +11,7 @@ use Rattle.std.proofs.lemmas.List.Elements.{Contains-append_left, Contains-appen
 use Rattle.sg_spec.specs.Tree.{Tree, numeral, here, param, add, neg, mul, div, power, sum_from, prod_from}
 use Rattle.sg_spec.specs.Value.{val, total, SameValue}
 use Rattle.sg_spec.specs.Generators.{same_whole, same_tree, has_tree, joined, distinct, concatenated, sums, all_sums, Over}
-use Rattle.sg_value_theory.specs.Telescoping.{Tele}
+use Rattle.sg_spec.specs.Telescoping.{Tele}
 use Rattle.sg_value_theory.proofs.Converse.{closed_tele}
 
 both_true : (a b : Bool) → a && b ≡ true → (a ≡ true) × (b ≡ true)

@@ -13,7 +13,7 @@ use Rattle.sg_algebra.proofs.Place.{Pairwise}
 use Rattle.sg_spec.specs.Tree.{Tree, sum_from}
 use Rattle.sg_spec.specs.Value.{how_many}
 use Rattle.sg_tower_theory.proofs.Formal.{Formal, Element}
-use Rattle.sg_value_theory.proofs.TreeWorth.{IsFolded, HasWorth}
+use Rattle.sg_spec.specs.Worth.{IsFolded, HasWorth}
 use Rattle.sg_value_theory.proofs.Elements.{Point, HasElement}
 use Rattle.sg_value_theory.proofs.TreePoints.{AreValues, IsPointOf, Agrees}
 use Rattle.sg_value_theory.proofs.TowerOf.{IsTowerOf, at_places}

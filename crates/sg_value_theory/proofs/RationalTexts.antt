@@ -15,7 +15,7 @@ use Rattle.sg_spec.specs.Value.{val, sum_of, product_of, quotient_of}
 use Rattle.sg_spec.specs.Generators.{Over}
 use Rattle.sg_values.proofs.Values.{val-proper}
 use Rattle.sg_values.proofs.Worth.{Worth, worth-sum, worth-product, worth-opposite, worth-power}
-use Rattle.sg_value_theory.specs.Telescoping.{Tele}
+use Rattle.sg_spec.specs.Telescoping.{Tele}
 use Rattle.sg_tower_theory.proofs.Nested.{Telescopes}
 use Rattle.sg_tower_theory.proofs.ShiftValue.{shift_valueH}
 use Rattle.sg_value_theory.proofs.Elements.{IsQuotientAt}

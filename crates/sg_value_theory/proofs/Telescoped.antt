@@ -10,14 +10,14 @@ use Rattle.sg_algebra.proofs.ValueField.{ValueR}
 use Rattle.sg_spec.specs.Tree.{Tree, sum_from}
 use Rattle.sg_spec.specs.Generators.{sums, prods, start}
 use Rattle.sg_spec.specs.Closed.{Closed, IsOverOwn}
-use Rattle.sg_value_theory.proofs.TreeWorth.{HasWorth}
+use Rattle.sg_spec.specs.Worth.{HasWorth}
 use Rattle.sg_value_theory.proofs.Evaluation.{Evaluation}
 use Rattle.sg_spec.specs.Value.{val, SameValue, total}
 use Rattle.sg_values.proofs.Values.{val-proper}
 use Rattle.sg_values.proofs.Worth.{worth_same}
 use Rattle.sg_values.proofs.Totals.{from_on}
-use Rattle.sg_value_theory.proofs.Worths.{worth_number}
-use Rattle.sg_value_theory.proofs.Closes.{no_letter, total_closes}
+use Rattle.sg_written.proofs.Worths.{worth_number}
+use Rattle.sg_written.proofs.Closes.{no_letter, total_closes}
 
 module _ (E : Ring) (shift : E.A → E.A) {d : ℕ} (at : ℕ → Evaluation E d) where
   open E use {A, ◌≈◌, ◌⊞◌, ⊟}

@@ -8,7 +8,7 @@ use Rattle.sg_algebra.proofs.Value.{Value}
 use Rattle.sg_spec.specs.Tree.{Tree}
 use Rattle.sg_tower_theory.proofs.Formal.{Formal, Element}
 use Rattle.sg_value_theory.proofs.Elements.{Point, HasElement}
-use Rattle.sg_value_theory.proofs.TreeWorth.{HasWorth}
+use Rattle.sg_spec.specs.Worth.{HasWorth}
 
 module _ {d : ℕ} (letter : Value d) where
   abbrev pub AreValues : ℤ → List Tree → (ℕ → Value d) → Type 0

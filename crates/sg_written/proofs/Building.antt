@@ -12,7 +12,7 @@ use Rattle.sg_algebra.specs.Coefficients.{Each}
 use Rattle.sg_spec.specs.Tree.{Tree, numeral, here, param, add, neg, mul, div, power, sum_from, prod_from}
 use Rattle.sg_spec.specs.Generators.{same_tree, Over, OverWithProducts, IsPolynomial, IsDivisor}
 use Rattle.sg_spec.specs.Printing.{InForm, is_polynomial_tree, is_divisor_tree}
-use Rattle.sg_written.specs.Canonical.{Plane, Signed, times_all, over_all, above, unsigned_tree, with_sign, signed_tree, added, total_tree, turned, raised_factor, monomial, monomial_terms, row_monomials, monomials, polynomial_tree, leads_below, negated, Written, is_one, upper_factor, lower_factor, factors, lower_factors, one_term, of_coefficient, term_of, grouped, first_power, without, before_groups, groups, joined, raised, signed_terms, element_tree}
+use Rattle.sg_spec.specs.Canonical.{Plane, Signed, times_all, over_all, above, unsigned_tree, with_sign, signed_tree, added, total_tree, turned, raised_factor, monomial, monomial_terms, row_monomials, monomials, polynomial_tree, leads_below, negated, Written, is_one, upper_factor, lower_factor, factors, lower_factors, one_term, of_coefficient, term_of, grouped, first_power, without, before_groups, groups, joined, raised, signed_terms, element_tree}
 
 pub record Builds (P Q D : Tree → Type 0) (N : Type 0) : Type 0 where
   pub number : (c : ℕ) → Q (numeral (pos c))

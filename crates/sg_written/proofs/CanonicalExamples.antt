@@ -1,7 +1,7 @@
 -- Worked canonical forms.
 use Rattle.std.proofs.Common.{◌≡◌, ℤ, pos, negsuc, refl, List, [], ◌∷◌}
 use Rattle.sg_spec.specs.Tree.{Tree, numeral, here, param, add, neg, mul, div, power, sum_from}
-use Rattle.sg_written.specs.Canonical.{element_tree}
+use Rattle.sg_spec.specs.Canonical.{element_tree}
 
 harmonic : Tree
 harmonic = sum_from (pos 1) (div (numeral (pos 1)) here)

@@ -15,7 +15,7 @@ use Rattle.sg_spec.specs.Closed.{Closed, IsOverOwn}
 use Rattle.sg_values.proofs.Values.{val-proper}
 use Rattle.sg_values.proofs.Worth.{worth_same}
 use Rattle.sg_values.proofs.Totals.{from_on}
-use Rattle.sg_written.specs.Worth.{IsFolded, HasWorth}
+use Rattle.sg_spec.specs.Worth.{IsFolded, HasWorth}
 use Rattle.sg_written.proofs.Worths.{worth_number}
 
 module _ {d : ℕ} (letter : Value d) (f : Tree) (a : ℤ) where

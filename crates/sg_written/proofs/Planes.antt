@@ -13,7 +13,7 @@ use Rattle.sg_algebra.proofs.PolynomialRing.{PolyR, constantH}
 use Rattle.sg_algebra.proofs.Rational.{whole_value}
 use Rattle.sg_algebra.proofs.Value.{Value}
 use Rattle.sg_algebra.proofs.ValueField.{ValueR, ValueD}
-use Rattle.sg_written.specs.Canonical.{plane_polynomial, entries, plane_of}
+use Rattle.sg_spec.specs.Canonical.{plane_polynomial, entries, plane_of}
 
 abbrev pub V : Ring
 V = ValueR 0

@@ -12,7 +12,7 @@ use Rattle.sg_spec.specs.Tree.{Tree, numeral, here, param, add, neg, mul, div, p
 use Rattle.sg_spec.specs.Value.{val, both, sum_of, product_of, quotient_of, unless_zero, opposite_of, power_of, folded, how_many}
 use Rattle.sg_values.proofs.Values.{IsProper, val-proper, sum_proper, product_positive}
 use Rattle.sg_values.proofs.Worth.{Worth, number_of, worth_cong, worth-sum, worth-product, worth-opposite, worth-whole, worth-power}
-use Rattle.sg_written.specs.Worth.{IsFolded, HasWorth}
+use Rattle.sg_spec.specs.Worth.{IsFolded, HasWorth}
 
 pub folded_unique : {B : Type 0} (op : B → B → B) (start : B) (term : ℤ → B → Type 0) → ((j : ℤ) (u w : B) → term j u → term j w → u ≡ w)
     → (from : ℤ) (n : ℕ) (u w : B) → IsFolded op start term from n u → IsFolded op start term from n w → u ≡ w
@@ -57,7 +57,7 @@ module _ (op : Fraction → Fraction → Option Fraction) (plus : Value 0 → Va
       worth_cong (both op (folded op start term from n) (term (from +ℤ pos n))) (plus h.0 h.1) v (sym h.4)
       (joins (folded op start term from n) (term (from +ℤ pos n)) h.0 h.1 (proper n from) (term-proper (from +ℤ pos n)) (folded_worth from n h.0 h.2) (terms (from +ℤ pos n) h.1 h.3))
 
-sums_proper : (term : ℤ → Option Fraction) → ((j : ℤ) → IsProper (term j)) → (n : ℕ) (from : ℤ) → IsProper (folded sum_of (whole (pos 0)) term from n)
+pub sums_proper : (term : ℤ → Option Fraction) → ((j : ℤ) → IsProper (term j)) → (n : ℕ) (from : ℤ) → IsProper (folded sum_of (whole (pos 0)) term from n)
 sums_proper term h zero from = omega arith
 sums_proper term h (suc n) from = sum_proper (folded sum_of (whole (pos 0)) term from n) (term (from +ℤ pos n)) (sums_proper term h n from) (h (from +ℤ pos n))
 
@@ -66,7 +66,7 @@ product_proper (Some x) (Some y) h k = product_positive x.den y.den h k
 product_proper (Some x) None h k = tt
 product_proper None v h k = tt
 
-products_proper : (term : ℤ → Option Fraction) → ((j : ℤ) → IsProper (term j)) → (n : ℕ) (from : ℤ) → IsProper (folded product_of (whole (pos 1)) term from n)
+pub products_proper : (term : ℤ → Option Fraction) → ((j : ℤ) → IsProper (term j)) → (n : ℕ) (from : ℤ) → IsProper (folded product_of (whole (pos 1)) term from n)
 products_proper term h zero from = omega arith
 products_proper term h (suc n) from = product_proper (folded product_of (whole (pos 1)) term from n) (term (from +ℤ pos n)) (products_proper term h n from) (h (from +ℤ pos n))
 

@@ -13,8 +13,8 @@ use Rattle.sg_algebra.proofs.Value.{Value, ◌+ᵛ◌, ◌*ᵛ◌, neg_value, in
 use Rattle.sg_algebra.proofs.ValueField.{ValueR, value_quotient, value_one_ne}
 use Rattle.sg_algebra.proofs.Rational.{whole_value}
 use Rattle.sg_spec.specs.Tree.{Tree, numeral, here, param}
-use Rattle.sg_written.specs.Worth.{HasWorth}
-use Rattle.sg_written.specs.Canonical.{Plane, Signed, raised_factor, monomial, plain_term, monomial_terms, row_monomials, monomials, polynomial_tree, leads_below, negated, Written, is_one, upper_factor, lower_factor, factors, lower_factors, one_term, of_coefficient, term_of, first_power, later_powers, without, before_groups, groups, joined, raised, signed_terms, element_tree}
+use Rattle.sg_spec.specs.Worth.{HasWorth}
+use Rattle.sg_spec.specs.Canonical.{Plane, Signed, raised_factor, monomial, plain_term, monomial_terms, row_monomials, monomials, polynomial_tree, leads_below, negated, Written, is_one, upper_factor, lower_factor, factors, lower_factors, one_term, of_coefficient, term_of, first_power, later_powers, without, before_groups, groups, joined, raised, signed_terms, element_tree}
 use Rattle.sg_written.proofs.WrittenTerms.{tree_one, IsProduct, IsInverse, HasSigned, HasAll, above-worth, total-worth, all-append, product-append, factor-product, raised-has}
 
 module _ {d : ℕ} (letter : Value d) (k : ℤ) where

@@ -12,8 +12,8 @@ use Rattle.sg_algebra.proofs.Value.{Value, ◌+ᵛ◌, ◌*ᵛ◌, neg_value, in
 use Rattle.sg_algebra.proofs.ValueField.{ValueR}
 use Rattle.sg_spec.specs.Tree.{Tree, numeral, here, param, add, neg, mul, div, power, sum_from, prod_from}
 use Rattle.sg_spec.specs.Generators.{same_tree}
-use Rattle.sg_written.specs.Worth.{HasWorth}
-use Rattle.sg_written.specs.Canonical.{Signed, times_all, over_all, above, unsigned_tree, with_sign, signed_tree, added, total_tree, turned, raised_factor, with_upper, grouped, raised}
+use Rattle.sg_spec.specs.Worth.{HasWorth}
+use Rattle.sg_spec.specs.Canonical.{Signed, times_all, over_all, above, unsigned_tree, with_sign, signed_tree, added, total_tree, turned, raised_factor, with_upper, grouped, raised}
 
 pub tree_one : (n : Tree) → same_tree n (numeral (pos 1)) ≡ true → n ≡ numeral (pos 1)
 tree_one (numeral (pos c)) e = ap (λ (m : ℕ). numeral (pos m)) (eqb-true c 1 e)

@@ -1,2 +1,2 @@
-//! Values of any depth and the canonical form of elements: definitions and lemmas. It has no code.
+//! Lemmas on the values of trees at any depth and on the canonical form of elements. It has no code.
 #![tactic(auto)]

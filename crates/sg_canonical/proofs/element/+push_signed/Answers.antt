@@ -1,5 +1,5 @@
 use Rattle.std.proofs.Common.{◌++◌, ◌+◌, suc, OnOk, ◌≡◌, map, List, subst, sym, ◌∙◌, arith}
-use Rattle.sg_written.specs.Canonical.{Signed}
+use Rattle.sg_spec.specs.Canonical.{Signed}
 use Rattle.sg_expr.specs.Tree.{tree_of}
 use Rattle.sg_canonical.specs.Parts.{IsRun}
 use Rattle.sg_canonical.specs.Signs.{signed_of}

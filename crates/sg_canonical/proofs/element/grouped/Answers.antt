@@ -1,6 +1,6 @@
 use Rattle.std.proofs.Common.{◌≡◌, cond, map, ap, ◌∙◌, rules}
 use Rattle.sg_expr.specs.Tree.{tree_of}
-use Rattle.sg_written.specs.Canonical.{total_tree, turned}
+use Rattle.sg_spec.specs.Canonical.{total_tree, turned}
 use Rattle.sg_canonical.specs.Signs.{signed_of, turned_if}
 use Rattle.sg_canonical.proofs.Turned.{grouped-total}
 use Rattle.sg_canonical.proofs.element.grouped.Goals as goal

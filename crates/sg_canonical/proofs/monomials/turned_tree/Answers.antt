@@ -1,6 +1,6 @@
 use Rattle.sg_written.proofs.OneTerm.{plane-opposite}
 use Rattle.std.proofs.Common.{◌≡◌, map, neg_ℤ, rules}
-use Rattle.sg_written.specs.Canonical.{negated, plane_of}
+use Rattle.sg_spec.specs.Canonical.{negated, plane_of}
 use Rattle.sg_canonical.proofs.monomials.turned_tree.Goals as goal
 
 pub returns-clause-tree : goal.returns-clause-tree

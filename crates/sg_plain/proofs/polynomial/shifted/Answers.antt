@@ -10,7 +10,7 @@ start-is : (c : goal.After-loop-c) → c.push.new.self ≡ c.whole.result ∷ []
 start-is c = c.in_ok-push.ensures.ok ∙ ap (λ l. l ++ (c.whole.result ∷ [])) c.new-result.ensures
 
 pub returns-clause-value : goal.returns-clause-value
-returns-clause-value c = λ x. shifted-value c.args.p.now c.loop-c.result c.push.new.self c.whole.result x (result-is c) (start-is c) c.whole.ensures
+returns-clause-value c = λ x. shifted-value c.args.p.now c.loop-c.result c.push.new.self c.whole.result x (result-is c) (start-is c) c.whole.ensures.value
 
 pub returns-clause-size : goal.returns-clause-size
 returns-clause-size c =

@@ -12,4 +12,4 @@ use Rattle.sg_plain.proofs.sums.minus_one_more.Goals as goal
 pub returns-clause-value : goal.returns-clause-value
 returns-clause-value c =
     let e : to_z w128 (of_z w128 (negsuc 0 -ℤ to_z w128 c.args.n)) ≡ negsuc c.args.n = omega (arith, ints) in
-    number-whole c.whole.result (negsuc c.args.n) (c.whole.ensures ∙ ap whole e) ∙ ap (λ (m : ℕ). neg_value (nat (ValueR 0) m)) (sym (add-one c.args.n))
+    number-whole c.whole.result (negsuc c.args.n) (c.whole.ensures.value ∙ ap whole e) ∙ ap (λ (m : ℕ). neg_value (nat (ValueR 0) m)) (sym (add-one c.args.n))

@@ -9,4 +9,4 @@ use Rattle.sg_plain.proofs.sums.one_more.Goals as goal
 pub returns-clause-value : goal.returns-clause-value
 returns-clause-value c =
     let e : to_z w128 (of_z w128 (to_z w128 c.args.n +ℤ pos 1)) ≡ pos (c.args.n + 1) = omega (arith, ints) in
-    number-whole c.whole.result (pos (c.args.n + 1)) (c.whole.ensures ∙ ap whole e)
+    number-whole c.whole.result (pos (c.args.n + 1)) (c.whole.ensures.value ∙ ap whole e)

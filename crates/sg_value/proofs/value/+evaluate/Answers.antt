@@ -65,14 +65,14 @@ evaluate_part-returns-in-Sum t c =
     let fits_n : SFits w64 c.args.n = c.ranges.n in
     let fits_k : SFits w64 c.args.k = c.ranges.k in
     let fits_from : SFits w64 c.in-Sum.from = search rules in
-    rw c.in-Sum.is (simp to_z-of_z at (rw (c.whole-in-Sum.ensures, c.deref-in-Sum.ensures) at c.fold.ensures))
+    rw c.in-Sum.is (simp to_z-of_z at (rw (c.whole-in-Sum.ensures.value, c.deref-in-Sum.ensures) at c.fold.ensures))
 
 pub evaluate_part-returns-in-Prod : goal.evaluate_part-returns-in-Prod
 evaluate_part-returns-in-Prod t c =
     let fits_n : SFits w64 c.args.n = c.ranges.n in
     let fits_k : SFits w64 c.args.k = c.ranges.k in
     let fits_from : SFits w64 c.in-Prod.from = search rules in
-    rw c.in-Prod.is (simp to_z-of_z at (rw (c.whole-in-Prod.ensures, c.deref-in-Prod.ensures) at c.fold-in-Prod.ensures))
+    rw c.in-Prod.is (simp to_z-of_z at (rw (c.whole-in-Prod.ensures.value, c.deref-in-Prod.ensures) at c.fold-in-Prod.ensures))
 
 pub climb-climb-middle-requires : goal.climb-climb-middle-requires
 climb-climb-middle-requires t c =

@@ -12,4 +12,4 @@ pub returns-in-Value : goal.returns-in-Value
 returns-in-Value c = λ t n k a.
     opposite-value c.in-Value.x c.operate.result (val t n k) (steps t n k)
     (subst (λ (r : Outcome). Answers r (val t n k) (steps t n k)) c.in-Value.is a)
-    (λ y s. c.operate.ensures (whole (pos 0)) y (whole-stands c.whole.result (pos 0) c.whole.ensures) s)
+    (λ y s. c.operate.ensures (whole (pos 0)) y (whole-stands c.whole.result (pos 0) c.whole.ensures.value) s)

@@ -4,3 +4,6 @@ pub mod Dividers
 pub mod Shifting
 pub mod Unique
 pub mod Planar
+pub mod Taken
+pub mod SimpleRows
+pub mod Exact

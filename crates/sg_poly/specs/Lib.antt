@@ -1,2 +1,4 @@
 pub mod Divisors
 pub mod Plane
+pub mod Polynomials
+pub mod Splits

@@ -4,14 +4,11 @@
 --   plane_at p n k  the value of p at whole n and k
 --   IsFront p q     q is the list p without the zeros at its end
 --   IsTrimmed p     no list ends in 0, and the last list isn't empty
---   IsMemory s      a call stopped for want of memory, and for nothing else
 use Rattle.std.specs.Prelude.{◌≡◌, ◌≢◌, ℕ, suc, List, [], length, map, get_or, ℤ, pos}
 use Rattle.sg_algebra.specs.Coefficients.{eval}
 use Rattle.sg_algebra.proofs.Value.{Value}
 use Rattle.sg_algebra.proofs.ValueField.{ValueR}
 use Rattle.sg_algebra.proofs.Rational.{whole_value}
-use Rattle.sg_num.specs.declared.step.Stop.{Stop}
-use Rattle.sg_num.specs.declared.step.Stop.TheVariants.{Memory, Wide}
 
 abbrev pub entry : List (List ℤ) → ℕ → ℕ → ℤ
 entry p i j = get_or (get_or p i []) j (pos 0)
@@ -33,7 +30,3 @@ pub record IsFront (old new : List ℤ) : Type 0 where
 pub record IsTrimmed (p : List (List ℤ)) : Type 0 where
   pub rows : (i : ℕ) → EndsNotZero (get_or p i [])
   pub last : (n : ℕ) → length p ≡ suc n → get_or p n [] ≢ []
-
-abbrev pub IsMemory : Stop → Type 0
-IsMemory (Memory e) = Unit {0}
-IsMemory (Wide w) = ⊥

@@ -6,24 +6,70 @@ ghost use Rattle.sg_algebra.proofs.Rational.{whole_value};
 ghost use Rattle.sg_algebra.proofs.Shift.{moved};
 ghost use Rattle.sg_algebra.proofs.Polynomial.{Polynomial, poly, coefficient, ◌+ᵖ◌, ◌*ᵖ◌, zero_polynomial, constant, EndsNonzero};
 ghost use Rattle.sg_num.specs.Stopped.{KeepsWideStep};
-ghost use Rattle.sg_poly.specs.Divisors.{◌∣ᵖ◌, IsMonic, IsDivision, IsGcd};
+ghost use Rattle.sg_poly.specs.Divisors.{◌∣ᵖ◌, IsMonic, IsOnlyDivision, IsStep};
+ghost use Rattle.sg_poly.specs.Polynomials.{polynomial, polynomial_at, over_lead};
 
 use crate::poly::Poly;
-use sg_num::{Field, Rat, Row, Stop};
+use sg_num::{Field, Rat, Row, Stop, copies_of};
 use std::alloc::Global;
 
-// Copies of `n` coefficients, from the one at `from` on.
-fn copied<F: Field>(alloc: Global, p: &[F], from: usize, n: usize) -> Result<Row<F>, Stop>
-    requires { from + n ≡ length p.now }
-    ensures size { IfOk result (λ r. length r ≡ n) }
-    ensures value { IfOk result (λ r. poly (map F.val r) ≡ poly (map F.val (drop from p.now))) }
-    ensures wide { IfErr result KeepsWideStep }
-{
-    let mut row = Row::new(alloc);
-    for i in 0..n {
-        row.push(p[from + i].copy(alloc)?)?;
+impl<F: Field> Poly<F> {
+    /// The quotient and the rest of the division by `other`, which isn't 0; the rest has a lower degree than `other`, or is 0.
+    pub fn div_rem(&self, alloc: Global, other: &Poly<F>) -> Result<(Poly<F>, Poly<F>), Stop>
+        requires { ¬ (polynomial F.val other.now ≡ zero_polynomial) }
+        ensures value { IfOk result (λ r. polynomial F.val self.now ≡ polynomial F.val r.0 *ᵖ polynomial F.val other.now +ᵖ polynomial F.val r.1) }
+        ensures smaller { IfOk result (λ r. length r.1 < length other.now) }
+        ensures unique { IfOk result (λ r. IsOnlyDivision F.val self.now other.now r.0 r.1) }
+        ensures wide { IfErr result KeepsWideStep }
+    {
+        let parts = divided(alloc, self.coeffs(), other.coeffs())?;
+        let quotient = Poly::trimmed(parts.quotient);
+        let rest = Poly::trimmed(parts.rest);
+        Ok((quotient, rest))
     }
-    Ok(row)
+
+    /// The polynomial over a divisor of it, which isn't 0.
+    pub fn exact(&self, alloc: Global, other: &Poly<F>) -> Result<Poly<F>, Stop>
+        requires some { ¬ (polynomial F.val other.now ≡ zero_polynomial) }
+        requires divides { polynomial F.val other.now ∣ᵖ polynomial F.val self.now }
+        ensures value { IfOk result (λ r. polynomial F.val self.now ≡ polynomial F.val r *ᵖ polynomial F.val other.now) }
+        ensures wide { IfErr result KeepsWideStep }
+    {
+        let _divisor = other.coeffs();
+        let (quotient, _rest) = self.div_rem(alloc, other)?;
+        Ok(quotient)
+    }
+
+    /// The polynomial, which isn't 0, over its last coefficient.
+    pub fn monic(&self, alloc: Global) -> Result<Poly<F>, Stop>
+        requires { ¬ (polynomial F.val self.now ≡ zero_polynomial) }
+        ensures value { IfOk result (λ r. polynomial F.val r ≡ over_lead F.val self.now) }
+        ensures monic { IfOk result (λ r. IsMonic (map F.val r)) }
+        ensures divisors { IfOk result (λ r. (c : Polynomial F.vars) → (c ∣ᵖ polynomial F.val r) ↔ (c ∣ᵖ polynomial F.val self.now)) }
+        ensures some { IfOk result (λ r. ¬ (polynomial F.val r ≡ zero_polynomial)) }
+        ensures shorter { IfOk result (λ r. length r ≤ length self.now) }
+        ensures wide { IfErr result KeepsWideStep }
+    {
+        let r = over_last(alloc, self)?;
+        Ok(r)
+    }
+
+    /// The polynomial at k + m, by Horner's rule.
+    pub fn shift_by(&self, alloc: Global, m: i128) -> Result<Poly<F>, Stop>
+        ensures value { IfOk result (λ r. polynomial F.val r ≡ poly (moved (ValueR F.vars) (whole_value F.vars m) (map F.val self.now))) }
+        ensures at { IfOk result (λ r. (x : Value F.vars) → polynomial_at F.val r x ≡ polynomial_at F.val self.now (x +ᵛ whole_value F.vars m)) }
+        ensures wide { IfErr result KeepsWideStep }
+    {
+        let p = self.coeffs();
+        let by = F::from_rat(alloc, Rat::whole(m))?;
+        let mut row = Row::new(alloc);
+        let mut i = p.len();
+        while i > 0 {
+            i -= 1;
+            row = raised(alloc, &p[i], &by, row.as_slice())?;
+        }
+        Ok(Poly::trimmed(row))
+    }
 }
 
 // The coefficient at `k` of `a` and then `rest`.
@@ -38,7 +84,7 @@ fn behind<'a, F: Field>(a: &'a F, rest: &'a [F], k: usize) -> &'a F
 fn reduced<F: Field>(alloc: Global, a: &F, rest: &[F], t: &F, w: &[F]) -> Result<Row<F>, Stop>
     requires { length w.now ≡ suc (length rest.now) }
     ensures size { IfOk result (λ r. length r ≡ length rest.now) }
-    ensures value { IfOk result (λ r. (k : ℕ) → k < length rest.now → coefficient (map F.val r) k ≡ coefficient (F.val a.now ∷ map F.val rest.now) k -ᵛ F.val t.now *ᵛ coefficient (map F.val w.now) k) }
+    ensures value { IfOk result (IsStep F.val a.now rest.now t.now w.now) }
     ensures wide { IfErr result KeepsWideStep }
 {
     let mut row = Row::new(alloc);
@@ -62,14 +108,14 @@ fn divided_long<F: Field>(alloc: Global, p: &[F], w: &[F]) -> Result<Parts<F>, S
     requires ends { EndsNonzero (map F.val w.now) }
     requires some { 0 < length w.now }
     requires long { length w.now ≤ length p.now }
-    ensures value { IfOk result (λ r. poly (map F.val p.now) ≡ poly (map F.val r.quotient) *ᵖ poly (map F.val w.now) +ᵖ poly (map F.val r.rest)) }
+    ensures value { IfOk result (λ r. polynomial F.val p.now ≡ polynomial F.val r.quotient *ᵖ polynomial F.val w.now +ᵖ polynomial F.val r.rest) }
     ensures size { IfOk result (λ r. length r.rest < length w.now) }
     ensures wide { IfErr result KeepsWideStep }
 {
     let degree = w.len() - 1;
     let mut quotient = Row::new(alloc);
     let mut i = p.len() - degree;
-    let mut rest = copied(alloc, p, i, degree)?;
+    let mut rest = copies_of(alloc, &p[i..])?;
     while i > 0 {
         i -= 1;
         let a = &p[i];
@@ -85,12 +131,12 @@ fn divided_long<F: Field>(alloc: Global, p: &[F], w: &[F]) -> Result<Parts<F>, S
 fn divided<F: Field>(alloc: Global, p: &[F], w: &[F]) -> Result<Parts<F>, Stop>
     requires ends { EndsNonzero (map F.val w.now) }
     requires some { 0 < length w.now }
-    ensures value { IfOk result (λ r. poly (map F.val p.now) ≡ poly (map F.val r.quotient) *ᵖ poly (map F.val w.now) +ᵖ poly (map F.val r.rest)) }
+    ensures value { IfOk result (λ r. polynomial F.val p.now ≡ polynomial F.val r.quotient *ᵖ polynomial F.val w.now +ᵖ polynomial F.val r.rest) }
     ensures size { IfOk result (λ r. length r.rest < length w.now) }
     ensures wide { IfErr result KeepsWideStep }
 {
     if p.len() < w.len() {
-        let rest = copied(alloc, p, 0, p.len())?;
+        let rest = copies_of(alloc, p)?;
         let quotient = Row::new(alloc);
         return Ok(Parts { quotient, rest });
     }
@@ -99,8 +145,8 @@ fn divided<F: Field>(alloc: Global, p: &[F], w: &[F]) -> Result<Parts<F>, Stop>
 
 // The polynomial over its last coefficient.
 fn over_last<F: Field>(alloc: Global, p: &Poly<F>) -> Result<Poly<F>, Stop>
-    requires { ¬ (poly (map F.val p.now) ≡ zero_polynomial) }
-    ensures value { IfOk result (λ r. poly (map F.val r) ≡ constant (inv_value (coefficient (map F.val p.now) (length p.now - 1))) *ᵖ poly (map F.val p.now)) }
+    requires { ¬ (polynomial F.val p.now ≡ zero_polynomial) }
+    ensures value { IfOk result (λ r. polynomial F.val r ≡ over_lead F.val p.now) }
     ensures shorter { IfOk result (λ r. length r ≤ length p.now) }
     ensures last { IfOk result (λ _. ¬ (coefficient (map F.val p.now) (length p.now - 1) ≡ zero_value)) }
     ensures wide { IfErr result KeepsWideStep }
@@ -124,7 +170,7 @@ fn raised_at<F: Field>(alloc: Global, a: &F, m: &F, r: &[F], i: usize) -> Result
 
 // The row a + (k + m) r.
 fn raised<F: Field>(alloc: Global, a: &F, m: &F, r: &[F]) -> Result<Row<F>, Stop>
-    ensures value { IfOk result (λ s. poly (map F.val s) ≡ constant (F.val a.now) +ᵖ poly (F.val m.now ∷ one_value ∷ []) *ᵖ poly (map F.val r.now)) }
+    ensures value { IfOk result (λ s. polynomial F.val s ≡ constant (F.val a.now) +ᵖ poly (F.val m.now ∷ one_value ∷ []) *ᵖ polynomial F.val r.now) }
     ensures wide { IfErr result KeepsWideStep }
 {
     let mut row = Row::new(alloc);
@@ -133,70 +179,4 @@ fn raised<F: Field>(alloc: Global, a: &F, m: &F, r: &[F]) -> Result<Row<F>, Stop
     }
     row.push(behind(a, r, r.len()).copy(alloc)?)?;
     Ok(row)
-}
-
-impl<F: Field> Poly<F> {
-    /// The quotient and the rest of the division by `other`, which isn't 0; the rest has a lower degree than `other`, or is 0.
-    pub fn div_rem(&self, alloc: Global, other: &Poly<F>) -> Result<(Poly<F>, Poly<F>), Stop>
-        requires { ¬ (poly (map F.val other.now) ≡ zero_polynomial) }
-        ensures value { IfOk result (λ r. poly (map F.val self.now) ≡ poly (map F.val r.0) *ᵖ poly (map F.val other.now) +ᵖ poly (map F.val r.1)) }
-        ensures smaller { IfOk result (λ r. length r.1 < length other.now) }
-        ensures unique { IfOk result (λ r. (q s : List (Value F.vars)) → IsDivision (map F.val self.now) (map F.val other.now) q s → (poly q ≡ poly (map F.val r.0)) × (poly s ≡ poly (map F.val r.1))) }
-        ensures wide { IfErr result KeepsWideStep }
-    {
-        let parts = divided(alloc, self.coeffs(), other.coeffs())?;
-        let quotient = Poly::trimmed(parts.quotient);
-        let rest = Poly::trimmed(parts.rest);
-        Ok((quotient, rest))
-    }
-
-    /// The polynomial, which isn't 0, over its last coefficient.
-    pub fn monic(&self, alloc: Global) -> Result<Poly<F>, Stop>
-        requires { ¬ (poly (map F.val self.now) ≡ zero_polynomial) }
-        ensures value { IfOk result (λ r. poly (map F.val r) ≡ constant (inv_value (coefficient (map F.val self.now) (length self.now - 1))) *ᵖ poly (map F.val self.now)) }
-        ensures monic { IfOk result (λ r. IsMonic (map F.val r)) }
-        ensures divisors { IfOk result (λ r. (c : Polynomial F.vars) → (c ∣ᵖ poly (map F.val r)) ↔ (c ∣ᵖ poly (map F.val self.now))) }
-        ensures some { IfOk result (λ r. ¬ (poly (map F.val r) ≡ zero_polynomial)) }
-        ensures shorter { IfOk result (λ r. length r ≤ length self.now) }
-        ensures wide { IfErr result KeepsWideStep }
-    {
-        let r = over_last(alloc, self)?;
-        Ok(r)
-    }
-
-    /// The monic greatest common divisor of the two, of which not both are 0: by Euclid's divisions, each by a monic divisor.
-    pub fn gcd(&self, alloc: Global, other: &Poly<F>) -> Result<Poly<F>, Stop>
-        requires { ¬ ((poly (map F.val self.now) ≡ zero_polynomial) × (poly (map F.val other.now) ≡ zero_polynomial)) }
-        ensures divisor { IfOk result (λ r. IsGcd (poly (map F.val r)) (poly (map F.val self.now)) (poly (map F.val other.now))) }
-        ensures monic { IfOk result (λ r. IsMonic (map F.val r)) }
-        ensures wide { IfErr result KeepsWideStep }
-    {
-        let mut a = self.copy(alloc)?;
-        let mut b = other.copy(alloc)?;
-        while !b.is_zero() {
-            let divisor = b.monic(alloc)?;
-            let (quotient, rest) = a.div_rem(alloc, &divisor)?;
-            a = divisor;
-            b = rest;
-        }
-        let r = a.monic(alloc)?;
-        Ok(r)
-    }
-
-    /// The polynomial at k + m, by Horner's rule.
-    pub fn shift_by(&self, alloc: Global, m: i128) -> Result<Poly<F>, Stop>
-        ensures value { IfOk result (λ r. poly (map F.val r) ≡ poly (moved (ValueR F.vars) (whole_value F.vars m) (map F.val self.now))) }
-        ensures at { IfOk result (λ r. (x : Value F.vars) → eval (ValueR F.vars) (map F.val r) x ≡ eval (ValueR F.vars) (map F.val self.now) (x +ᵛ whole_value F.vars m)) }
-        ensures wide { IfErr result KeepsWideStep }
-    {
-        let p = self.coeffs();
-        let by = F::from_rat(alloc, Rat::whole(m))?;
-        let mut row = Row::new(alloc);
-        let mut i = p.len();
-        while i > 0 {
-            i -= 1;
-            row = raised(alloc, &p[i], &by, row.as_slice())?;
-        }
-        Ok(Poly::trimmed(row))
-    }
 }

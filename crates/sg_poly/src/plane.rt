@@ -1,10 +1,10 @@
 ghost use Rattle.std.specs.Prelude.{◌≡◌, ◌≢◌, ℕ, suc, ◌<◌, ◌≤◌, [], List, length, get_or, take, IfOk, IfErr, ℤ, pos};
 ghost use Rattle.sg_algebra.proofs.Value.{◌+ᵛ◌, ◌*ᵛ◌};
 ghost use Rattle.sg_algebra.proofs.Rational.{whole_value};
-ghost use Rattle.sg_num.specs.Stopped.{IsTooWide};
+ghost use Rattle.sg_num.specs.Stopped.{IsTooWide, IsMemory};
 ghost use Rattle.sg_num.specs.Value.{number};
 ghost use Rattle.sg_algebra.proofs.Tables.{Each};
-ghost use Rattle.sg_poly.specs.Plane.{entry, row_at, plane_at, IsTrimmed, IsFront, IsMemory};
+ghost use Rattle.sg_poly.specs.Plane.{entry, row_at, plane_at, IsTrimmed, IsFront};
 
 use sg_num::{Rat, Row, Stop, Wide};
 use std::alloc::Global;
@@ -26,6 +26,46 @@ impl Model for Poly2 {
     ghost view = { λ p. p.rows };
 
     ghost invariant = { λ p. IsTrimmed p.rows };
+}
+
+impl Poly2 {
+    /// The polynomial of these lists; zeros at the end of a list and empty lists at the end are dropped.
+    pub fn from_rows(alloc: Global, rows: Row<Row<i128>>) -> Result<Poly2, Stop>
+        ensures value { IfOk result (λ p. (i j : ℕ) → entry p i j ≡ entry rows i j) }
+        ensures trimmed { IfOk result IsTrimmed }
+        ensures memory { IfErr result IsMemory }
+    {
+        let mut rows = fronts(alloc, rows.as_slice())?;
+        let n = height_of(rows.as_slice());
+        rows.truncate(n);
+        Ok(Poly2 { rows })
+    }
+
+    /// The value at n and k, by Horner's rule. It takes no memory.
+    pub fn value(&self, n: i64, k: i64) -> Result<Rat, Wide>
+        ensures value { IfOk result (λ r. number r ≡ plane_at self.now n k) }
+        ensures wide { IfErr result IsTooWide }
+    {
+        let rows = self.rows.as_slice();
+        let at_n = Rat::whole(n as i128);
+        let at_k = Rat::whole(k as i128);
+        let mut value = Rat::whole(0);
+        let mut i = rows.len();
+        while i > 0 {
+            i -= 1;
+            let c = row_value(rows[i].as_slice(), at_n)?;
+            value = stepped(c, at_k, value)?;
+        }
+        Ok(value)
+    }
+
+    /// The lists.
+    pub fn rows(&self) -> &Row<Row<i128>>
+        ensures value { result.now ≡ self.now }
+        ensures trimmed { IsTrimmed self.now }
+    {
+        &self.rows
+    }
 }
 
 // How many numbers there are up to the last that isn't 0.
@@ -110,44 +150,4 @@ fn fronts(alloc: Global, rows: &[Row<i128>]) -> Result<Row<Row<i128>>, Stop>
         new.push(trimmed(alloc, rows[i].as_slice())?)?;
     }
     Ok(new)
-}
-
-impl Poly2 {
-    /// The polynomial of these lists; zeros at the end of a list and empty lists at the end are dropped.
-    pub fn from_rows(alloc: Global, rows: Row<Row<i128>>) -> Result<Poly2, Stop>
-        ensures value { IfOk result (λ p. (i j : ℕ) → entry p i j ≡ entry rows i j) }
-        ensures trimmed { IfOk result IsTrimmed }
-        ensures memory { IfErr result IsMemory }
-    {
-        let mut rows = fronts(alloc, rows.as_slice())?;
-        let n = height_of(rows.as_slice());
-        rows.truncate(n);
-        Ok(Poly2 { rows })
-    }
-
-    /// The value at n and k, by Horner's rule. It takes no memory.
-    pub fn value(&self, n: i64, k: i64) -> Result<Rat, Wide>
-        ensures value { IfOk result (λ r. number r ≡ plane_at self.now n k) }
-        ensures wide { IfErr result IsTooWide }
-    {
-        let rows = self.rows.as_slice();
-        let at_n = Rat::whole(n as i128);
-        let at_k = Rat::whole(k as i128);
-        let mut value = Rat::whole(0);
-        let mut i = rows.len();
-        while i > 0 {
-            i -= 1;
-            let c = row_value(rows[i].as_slice(), at_n)?;
-            value = stepped(c, at_k, value)?;
-        }
-        Ok(value)
-    }
-
-    /// The lists.
-    pub fn rows(&self) -> &Row<Row<i128>>
-        ensures value { result.now ≡ self.now }
-        ensures trimmed { IsTrimmed self.now }
-    {
-        &self.rows
-    }
 }

@@ -4,9 +4,10 @@ ghost use Rattle.sg_algebra.proofs.Value.{◌+ᵛ◌, ◌-ᵛ◌, ◌*ᵛ◌, ze
 ghost use Rattle.sg_algebra.proofs.ValueField.{ValueR};
 ghost use Rattle.sg_algebra.proofs.Polynomial.{poly, coefficient, ◌+ᵖ◌, ◌-ᵖ◌, ◌*ᵖ◌, zero_polynomial, constant, EndsNonzero};
 ghost use Rattle.sg_num.specs.Stopped.{KeepsWideStep};
+ghost use Rattle.sg_poly.specs.Polynomials.{polynomial, polynomial_at};
 
 use crate::kernel::{difference_at, product_at, rows_same, size_of, sum_at};
-use sg_num::{Field, Row, Stop};
+use sg_num::{Field, Row, Stop, copies_of, horner};
 use std::alloc::{AllocError, Global};
 use std::marker::Model;
 
@@ -31,7 +32,7 @@ impl<F: Field> Model for Poly<F> {
 impl<F: Field> Poly<F> {
     /// The polynomial of these coefficients; those that are 0 at the end are dropped. It takes no memory.
     pub fn from_coeffs(alloc: Global, list: Row<F>) -> Result<Poly<F>, Stop>
-        ensures value { IfOk result (λ r. poly (map F.val r) ≡ poly (map F.val list)) }
+        ensures value { IfOk result (λ r. polynomial F.val r ≡ polynomial F.val list) }
         ensures shorter { IfOk result (λ r. length r ≤ length list) }
         ensures ends { IfOk result (λ r. EndsNonzero (map F.val r)) }
         ensures always { IsOk result }
@@ -42,7 +43,7 @@ impl<F: Field> Poly<F> {
 
     // The same, without an error.
     pub(crate) fn trimmed(list: Row<F>) -> Poly<F>
-        ensures value { poly (map F.val result) ≡ poly (map F.val list) }
+        ensures value { polynomial F.val result ≡ polynomial F.val list }
         ensures shorter { length result ≤ length list }
         ensures ends { EndsNonzero (map F.val result) }
     {
@@ -54,7 +55,7 @@ impl<F: Field> Poly<F> {
 
     /// The degree; None exactly for the zero polynomial.
     pub fn degree(&self) -> Option<usize>
-        ensures none { IfNone result (poly (map F.val self.now) ≡ zero_polynomial) }
+        ensures none { IfNone result (polynomial F.val self.now ≡ zero_polynomial) }
         ensures some { IfSome result (λ n. ¬ (coefficient (map F.val self.now) n ≡ zero_value)) }
         ensures last { IfSome result (λ n. (k : ℕ) → n < k → coefficient (map F.val self.now) k ≡ zero_value) }
     {
@@ -85,14 +86,14 @@ impl<F: Field> Poly<F> {
 
     /// Whether it is the zero polynomial.
     pub fn is_zero(&self) -> bool
-        ensures { IsTrue result ↔ (poly (map F.val self.now) ≡ zero_polynomial) }
+        ensures { IsTrue result ↔ (polynomial F.val self.now ≡ zero_polynomial) }
     {
         self.coeffs.is_empty()
     }
 
     /// The sum.
     pub fn add(&self, alloc: Global, other: &Poly<F>) -> Result<Poly<F>, Stop>
-        ensures value { IfOk result (λ r. poly (map F.val r) ≡ poly (map F.val self.now) +ᵖ poly (map F.val other.now)) }
+        ensures value { IfOk result (λ r. polynomial F.val r ≡ polynomial F.val self.now +ᵖ polynomial F.val other.now) }
         ensures wide { IfErr result KeepsWideStep }
     {
         let p = self.coeffs.as_slice();
@@ -106,7 +107,7 @@ impl<F: Field> Poly<F> {
 
     /// The difference.
     pub fn sub(&self, alloc: Global, other: &Poly<F>) -> Result<Poly<F>, Stop>
-        ensures value { IfOk result (λ r. poly (map F.val r) ≡ poly (map F.val self.now) -ᵖ poly (map F.val other.now)) }
+        ensures value { IfOk result (λ r. polynomial F.val r ≡ polynomial F.val self.now -ᵖ polynomial F.val other.now) }
         ensures wide { IfErr result KeepsWideStep }
     {
         let p = self.coeffs.as_slice();
@@ -120,7 +121,7 @@ impl<F: Field> Poly<F> {
 
     /// The product, one coefficient after the other.
     pub fn mul(&self, alloc: Global, other: &Poly<F>) -> Result<Poly<F>, Stop>
-        ensures value { IfOk result (λ r. poly (map F.val r) ≡ poly (map F.val self.now) *ᵖ poly (map F.val other.now)) }
+        ensures value { IfOk result (λ r. polynomial F.val r ≡ polynomial F.val self.now *ᵖ polynomial F.val other.now) }
         ensures wide { IfErr result KeepsWideStep }
     {
         let p = self.coeffs.as_slice();
@@ -138,7 +139,7 @@ impl<F: Field> Poly<F> {
 
     /// `c` times the polynomial.
     pub fn scale(&self, alloc: Global, c: &F) -> Result<Poly<F>, Stop>
-        ensures value { IfOk result (λ r. poly (map F.val r) ≡ constant (F.val c.now) *ᵖ poly (map F.val self.now)) }
+        ensures value { IfOk result (λ r. polynomial F.val r ≡ constant (F.val c.now) *ᵖ polynomial F.val self.now) }
         ensures shorter { IfOk result (λ r. length r ≤ length self.now) }
         ensures wide { IfErr result KeepsWideStep }
     {
@@ -152,20 +153,16 @@ impl<F: Field> Poly<F> {
 
     /// An equal polynomial.
     pub fn copy(&self, alloc: Global) -> Result<Poly<F>, Stop>
-        ensures value { IfOk result (λ r. poly (map F.val r) ≡ poly (map F.val self.now)) }
+        ensures value { IfOk result (λ r. polynomial F.val r ≡ polynomial F.val self.now) }
         ensures wide { IfErr result KeepsWideStep }
     {
-        let p = self.coeffs.as_slice();
-        let mut copied = Row::new(alloc);
-        for i in 0..p.len() {
-            copied.push(p[i].copy(alloc)?)?;
-        }
-        Ok(Poly::trimmed(copied))
+        let coeffs = copies_of(alloc, self.coeffs.as_slice())?;
+        Ok(Poly::trimmed(coeffs))
     }
 
     /// Whether the two are equal: they have as many coefficients, and equal ones.
     pub fn same(&self, alloc: Global, other: &Poly<F>) -> Result<bool, Stop>
-        ensures value { IfOk result (λ r. IsTrue r ↔ (poly (map F.val self.now) ≡ poly (map F.val other.now))) }
+        ensures value { IfOk result (λ r. IsTrue r ↔ (polynomial F.val self.now ≡ polynomial F.val other.now)) }
         ensures wide { IfErr result KeepsWideStep }
     {
         let p = self.coeffs();
@@ -179,16 +176,10 @@ impl<F: Field> Poly<F> {
 
     /// The value at `x`, by Horner's rule.
     pub fn eval(&self, alloc: Global, x: &F) -> Result<F, Stop>
-        ensures value { IfOk result (λ r. F.val r ≡ eval (ValueR F.vars) (map F.val self.now) (F.val x.now)) }
+        ensures value { IfOk result (λ r. F.val r ≡ polynomial_at F.val self.now (F.val x.now)) }
         ensures wide { IfErr result KeepsWideStep }
     {
-        let p = self.coeffs.as_slice();
-        let mut value = F::zero(alloc)?;
-        let mut i = p.len();
-        while i > 0 {
-            i -= 1;
-            value = p[i].add(alloc, &x.mul(alloc, &value)?)?;
-        }
+        let value = horner(alloc, self.coeffs.as_slice(), x)?;
         Ok(value)
     }
 }

@@ -233,3 +233,183 @@ fn shifts_add_up(rt: HostRuntime) {
         );
     }
 }
+
+// The product of q k + c over these pairs.
+fn product_of(alloc: Global, factors: &[(i128, i128)]) -> Result<Poly<Rat>, Stop> {
+    let mut p = whole(alloc, &[1])?;
+    for (q, c) in factors {
+        let factor = whole(alloc, &[*c, *q])?;
+        p = p.mul(alloc, &factor)?;
+    }
+    Ok(p)
+}
+
+// Whether the greatest common divisor of the first two products is the third.
+fn has_common(
+    alloc: Global,
+    p: &[(i128, i128)],
+    q: &[(i128, i128)],
+    want: &[(i128, i128)],
+) -> Result<bool, Stop> {
+    let p = product_of(alloc, p)?;
+    let q = product_of(alloc, q)?;
+    let w = product_of(alloc, want)?;
+    if p.is_zero() {
+        return Ok(false);
+    }
+    let r = p.gcd(alloc, &q)?;
+    r.same(alloc, &w)
+}
+
+// Products of eight linear factors: at each of these Euclid's divisions alone stop at a wide step.
+#[test]
+fn finds_common_factors_of_long_products(rt: HostRuntime) {
+    let cases: [[&[(i128, i128)]; 3]; 5] = [
+        [
+            &[
+                (1, 187),
+                (1, -23),
+                (1, 64),
+                (1, -151),
+                (1, 99),
+                (1, 3),
+                (1, -70),
+                (1, 142),
+            ],
+            &[
+                (1, 186),
+                (1, -24),
+                (1, 63),
+                (1, -152),
+                (1, 98),
+                (1, 2),
+                (1, -71),
+                (1, 141),
+            ],
+            &[],
+        ],
+        [
+            &[
+                (1, 187),
+                (1, -23),
+                (1, 64),
+                (1, -151),
+                (1, 99),
+                (1, 3),
+                (1, -70),
+                (1, 142),
+            ],
+            &[
+                (1, 186),
+                (1, -23),
+                (1, 63),
+                (1, -152),
+                (1, 99),
+                (1, 2),
+                (1, -71),
+                (1, 142),
+            ],
+            &[(1, -23), (1, 99), (1, 142)],
+        ],
+        [
+            &[
+                (1, 187),
+                (1, 187),
+                (1, 187),
+                (1, -151),
+                (1, 99),
+                (1, 3),
+                (1, 0),
+                (1, 0),
+            ],
+            &[
+                (1, 187),
+                (1, 187),
+                (1, 63),
+                (1, -152),
+                (1, 98),
+                (1, 0),
+                (1, 0),
+                (1, 0),
+            ],
+            &[(1, 187), (1, 187), (1, 0), (1, 0)],
+        ],
+        [
+            &[
+                (2, 187),
+                (3, -23),
+                (1, 64),
+                (2, -151),
+                (1, 99),
+                (3, 2),
+                (1, -70),
+                (1, 142),
+            ],
+            &[
+                (2, 185),
+                (3, -25),
+                (1, 64),
+                (2, -153),
+                (1, 98),
+                (3, 1),
+                (1, -71),
+                (1, 142),
+            ],
+            &[(1, 64), (1, 142)],
+        ],
+        [
+            &[
+                (1, 4096),
+                (1, -4000),
+                (1, 3333),
+                (1, -2718),
+                (1, 1414),
+                (1, 577),
+                (1, -693),
+                (1, 1618),
+            ],
+            &[
+                (1, 4095),
+                (1, -4001),
+                (1, 3332),
+                (1, -2718),
+                (1, 1415),
+                (1, 576),
+                (1, -694),
+                (1, 1617),
+            ],
+            &[(1, -2718)],
+        ],
+    ];
+    for [p, q, want] in cases {
+        assert!(rt;
+            matches!(has_common(rt.alloc(), p, q, want), Ok(true)),
+            "{p:?}"
+        );
+    }
+}
+
+// The polynomials that are made without coefficients: 1, k - 3, 5 k^2.
+fn made(alloc: Global) -> Result<bool, Stop> {
+    let one = Poly::<Rat>::one(alloc)?;
+    let line = Poly::linear(alloc, &Rat::whole(3))?;
+    let power = Poly::monomial(alloc, Rat::whole(5), 2)?;
+    let slope = power.derivative(alloc)?;
+    Ok(is(&one, &[1]) && is(&line, &[-3, 1]) && is(&power, &[0, 0, 5]) && is(&slope, &[0, 10]))
+}
+
+// The roots of (k - 3) (k + 1) (k^2 + 1) that are found.
+fn roots(alloc: Global) -> Result<Row<Rat>, Stop> {
+    let p = whole(alloc, &[-3, -2, -2, -2, 1])?;
+    p.rational_roots(alloc)
+}
+
+#[test]
+fn makes_simple_polynomials(rt: HostRuntime) {
+    assert!(rt; matches!(made(rt.alloc()), Ok(true)));
+    let found = match roots(rt.alloc()) {
+        Ok(r) => r.as_slice() == [Rat::whole(-1), Rat::whole(3)].as_slice(),
+        Err(_) => false,
+    };
+    assert!(rt; found);
+}

@@ -1,16 +1,24 @@
-use Rattle.std.proofs.Common.{◌≡◌, ◌∙◌, sym, ap₂, arith, ◌-◌, length, map, drop, suc}
+use Rattle.std.proofs.Common.{◌≡◌, ◌∙◌, sym, ap, ap₂, arith, ◌-◌, length, map, take, drop, suc}
+use Rattle.std.proofs.lemmas.List.{length-drop}
 use Rattle.sg_algebra.proofs.Value.{◌/ᵛ◌}
 use Rattle.sg_algebra.proofs.Lists.{length_map}
+use Rattle.sg_algebra.proofs.Polynomial.{poly}
 use Rattle.sg_algebra.proofs.Rows.{at_read, drop_step}
+use Rattle.sg_num.proofs.Probed.{taken_whole}
 use Rattle.sg_poly.proofs.Dividing.{dividing_start, dividing_more}
 use Rattle.sg_poly.proofs.division.divided_long.Goals as goal
 
 pub loop-i-init : goal.loop-i-init
-loop-i-init g c = record {
-  within = omega arith;
-  divided = dividing_start g.F.Field.val (length c.args.w.now - 1) (map g.F.Field.val c.args.w.now) (drop (length c.args.p.now - (length c.args.w.now - 1)) c.args.p.now) c.new-quotient.result c.in_ok-rest.rest
-      c.new-quotient.ensures c.in_ok-rest.ensures.size c.in_ok-rest.ensures.value;
-}
+loop-i-init g c =
+    let v = g.F.Field.val in
+    let from = length c.args.p.now - (length c.args.w.now - 1) in
+    let whole : take (length c.args.p.now - from) (drop from c.args.p.now) ≡ drop from c.args.p.now = taken_whole (drop from c.args.p.now) (length c.args.p.now - from) (omega (arith, length-drop from c.args.p.now)) in
+    let values : map v c.in_ok-rest.rest ≡ map v (drop from c.args.p.now) = c.in_ok-rest.ensures.values ∙ ap (map v) whole in
+    let size : length c.in_ok-rest.rest ≡ length c.args.w.now - 1 = omega (arith, ap length values, length_map v c.in_ok-rest.rest, length_map v (drop from c.args.p.now), length-drop from c.args.p.now, c.requires.long) in
+    record {
+      within = omega arith;
+      divided = dividing_start v (length c.args.w.now - 1) (map v c.args.w.now) (drop from c.args.p.now) c.new-quotient.result c.in_ok-rest.rest c.new-quotient.ensures size (ap poly values);
+    }
 
 pub div-requires : goal.div-requires
 div-requires g c z = c.requires.ends (length c.args.w.now - 1) (omega (arith, length_map g.F.Field.val c.args.w.now, c.requires.some))

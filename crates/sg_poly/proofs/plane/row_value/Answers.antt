@@ -11,7 +11,7 @@ use Rattle.sg_poly.proofs.plane.row_value.Goals as goal
 pub loop-i-init : goal.loop-i-init
 loop-i-init c = record {
   within = omega arith;
-  value = rw (drop_all (whole_value 0) (length c.args.list.now) c.args.list.now (omega arith)) (number-whole c.whole-value.result (pos 0) c.whole-value.ensures);
+  value = rw (drop_all (whole_value 0) (length c.args.list.now) c.args.list.now (omega arith)) (number-whole c.whole-value.result (pos 0) c.whole-value.ensures.value);
 }
 
 pub loop-i-preserved : goal.loop-i-preserved

@@ -13,7 +13,7 @@ use Rattle.sg_poly.proofs.plane.Poly2.value.Goals as goal
 pub loop-i-init : goal.loop-i-init
 loop-i-init c = record {
   within = omega arith;
-  value = rw (drop_all (λ (row : List ℤ). row_at row (number c.whole-at_n.result)) (length c.as_slice-rows.result.now) c.as_slice-rows.result.now (omega arith)) (number-whole c.whole-value.result (pos 0) c.whole-value.ensures);
+  value = rw (drop_all (λ (row : List ℤ). row_at row (number c.whole-at_n.result)) (length c.as_slice-rows.result.now) c.as_slice-rows.result.now (omega arith)) (number-whole c.whole-value.result (pos 0) c.whole-value.ensures.value);
 }
 
 pub loop-i-preserved : goal.loop-i-preserved

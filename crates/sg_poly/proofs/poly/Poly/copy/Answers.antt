@@ -1,10 +1,6 @@
-use Rattle.std.proofs.Common.{◌∙◌, sym, arith}
-use Rattle.sg_algebra.proofs.Rows.{builds_push, copied_built, at_read}
+use Rattle.std.proofs.Common.{◌∙◌, ap, map}
+use Rattle.sg_algebra.proofs.Polynomial.{poly}
 use Rattle.sg_poly.proofs.poly.Poly.copy.Goals as goal
 
-pub loop-i-preserved : goal.loop-i-preserved
-loop-i-preserved g c = builds_push g.F.Field.val _ _ _ _ _ c.loop-i.invariant
-    (c.in_ok-copy.ensures.value ∙ sym (at_read g.F.Field.val c.as_slice-p.result.now c.loop-i.i c.index-p-i.result (omega arith) c.index-p-i.is)) c.in_ok-push.ensures.ok
-
 pub returns-clause-value : goal.returns-clause-value
-returns-clause-value g c = rw (← (c.as_slice-p.ensures ∙ c.self.view_is)) (c.trimmed.ensures.value ∙ copied_built g.F.Field.val c.as_slice-p.result.now c.loop-i.copied c.loop-i.i c.loop-i.invariant (omega arith))
+returns-clause-value g c = rw (← (c.as_slice.ensures ∙ c.self.view_is)) (c.trimmed.ensures.value ∙ ap poly c.in_ok-coeffs.ensures.values)

@@ -1,7 +1,0 @@
-use Rattle.std.proofs.Common.{map, ◌+◌}
-use Rattle.sg_algebra.proofs.Polynomial.{coefficient}
-use Rattle.sg_algebra.proofs.Rows.{Builds}
-use Rattle.sg_poly.proofs.division.copied.Given as goal
-
-abbrev pub invariant-loop-i : goal.invariant-loop-i
-invariant-loop-i g l = Builds g.F.Field.val (λ k. coefficient (map g.F.Field.val l.p) (l.from + k)) l.i l.row

@@ -24,7 +24,8 @@ use Rattle.sg_plain.proofs.Canonical.{worth-canonical}
 use Rattle.sg_plain.proofs.Closing.{plain-sums, plain-prods, plain-start, over-canonical, form-is}
 use Rattle.sg_plain.proofs.CommonDenominator.{divisor-denominator, divisor-each}
 use Rattle.sg_plain.proofs.LinearTrees.{whole_value-add}
-use Rattle.sg_plain.proofs.Wholes.{whole_value-neg, whole_value-mul}
+use Rattle.sg_num.proofs.WholeSteps.{whole_value-mul}
+use Rattle.sg_plain.proofs.Wholes.{whole_value-neg}
 use Rattle.sg_plain.specs.Linear.{IsSmall, linear_value, IsLinear, IsSummed}
 use Rattle.sg_plain.specs.Terms.{falling_value}
 

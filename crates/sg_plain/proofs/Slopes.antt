@@ -10,7 +10,7 @@ use Rattle.sg_algebra.proofs.Solver.{ring, reads}
 use Rattle.sg_algebra.proofs.Value.{Value, ◌+ᵛ◌, ◌*ᵛ◌, zero_value}
 use Rattle.sg_algebra.proofs.ValueField.{ValueR}
 use Rattle.sg_plain.proofs.Lists.{pow-next}
-use Rattle.sg_plain.proofs.Wholes.{whole_value-mul}
+use Rattle.sg_num.proofs.WholeSteps.{whole_value-mul}
 use Rattle.sg_plain.specs.Linear.{linear_size, linear_value}
 
 -- (c + s x) b, where t is 0

@@ -1,7 +1,7 @@
 ghost use Rattle.std.specs.Prelude.{◌≤◌, unsigned_abs, [], false, IfOk, IfErr, IfSome, IsSome};
 ghost use Rattle.sg_expr.specs.Tree.{tree_of};
-ghost use Rattle.sg_num.specs.Stopped.{KeepsWideStep};
-ghost use Rattle.sg_plain.specs.Linear.{IsMemory, IsLinear};
+ghost use Rattle.sg_num.specs.Stopped.{IsMemory, KeepsWideStep};
+ghost use Rattle.sg_plain.specs.Linear.{IsLinear};
 ghost use Rattle.sg_spec.specs.Closed.{Closed};
 ghost use Rattle.sg_spec.specs.Limits.{degrees};
 ghost use Rattle.sg_spec.specs.Plain.{IsPlain, IsCanonical, weight};

@@ -15,7 +15,6 @@ ghost use Rattle.sg_plain.specs.Evaluation.{value_at, plain_value};
 use crate::polynomial::{
     added, coefficient, monomial, one, opposite, power, times, trimmed, variable, whole,
 };
-use crate::step::{difference, product, sum};
 use sg_expr::Expr;
 use sg_num::{Rat, Row, Stop};
 use std::alloc::{AllocError, Global};
@@ -56,7 +55,7 @@ fn add_part(alloc: Global, total: &mut Vec<Rat>, c: Rat, e: &Expr) -> Result<(),
 {
     match e {
         Expr::Num(n) => {
-            let d = product(c, Rat::whole(*n))?;
+            let d = c.times(Rat::whole(*n))?;
             add_term(total, d, 0)
         }
         Expr::Here => add_term(total, c, 1),
@@ -65,12 +64,12 @@ fn add_part(alloc: Global, total: &mut Vec<Rat>, c: Rat, e: &Expr) -> Result<(),
             add_multiple(alloc, total, c, b)
         }
         Expr::Neg(a) => {
-            let minus = difference(Rat::whole(0), c)?;
+            let minus = Rat::whole(0).minus(c)?;
             add_multiple(alloc, total, minus, a)
         }
         Expr::Mul(a, b) => match number_of(a) {
             Some(n) => {
-                let d = product(c, Rat::whole(n))?;
+                let d = c.times(Rat::whole(n))?;
                 add_multiple(alloc, total, d, b)
             }
             None => add_other(alloc, total, c, e),
@@ -91,7 +90,7 @@ fn add_term(total: &mut Vec<Rat>, c: Rat, degree: usize) -> Result<(), Stop>
     ensures wide { IfErr result KeepsWideStep }
 {
     pad(total, degree)?;
-    let next = sum(total[degree], c)?;
+    let next = total[degree].plus(c)?;
     total[degree] = next;
     Ok(())
 }
@@ -145,7 +144,7 @@ fn add_all(total: &mut Vec<Rat>, c: Rat, p: &[Rat]) -> Result<(), Stop>
     ensures wide { IfErr result KeepsWideStep }
 {
     for i in 0..p.len() {
-        let more = product(c, coefficient(p, i))?;
+        let more = c.times(coefficient(p, i))?;
         add_term(total, more, i)?;
     }
     Ok(())

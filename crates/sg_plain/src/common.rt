@@ -3,9 +3,8 @@ ghost use Rattle.sg_num.specs.Stopped.{KeepsWideStep};
 ghost use Rattle.sg_num.specs.Value.{fraction};
 ghost use Rattle.sg_plain.specs.CommonDenominator.{IsCommon};
 
-use crate::step::product;
-use crate::whole::{multiples, whole_product};
-use sg_num::{Rat, Row, Stop};
+use crate::whole::multiples;
+use sg_num::{Rat, Row, Stop, whole_product};
 use std::alloc::Global;
 
 /// A polynomial with whole coefficients, the highest first, over one denominator.
@@ -27,7 +26,7 @@ pub fn over_common(alloc: Global, p: &[Rat]) -> Result<Common, Stop>
         }),
         Some((c, rest)) => {
             let above = over_common(alloc, rest)?;
-            let more = product(Rat::whole(above.denominator), *c)?;
+            let more = Rat::whole(above.denominator).times(*c)?;
             let all = with_lowest(
                 alloc,
                 above.coefficients.as_slice(),

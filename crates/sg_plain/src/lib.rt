@@ -7,7 +7,6 @@ mod common;
 mod linear;
 mod polynomial;
 mod reading;
-mod step;
 mod summing;
 mod sums;
 mod terms;

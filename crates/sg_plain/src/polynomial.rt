@@ -7,7 +7,6 @@ ghost use Rattle.sg_num.specs.Value.{number};
 ghost use Rattle.sg_num.specs.Stopped.{KeepsWideStep};
 ghost use Rattle.sg_plain.specs.Evaluation.{value_at};
 
-use crate::step::{product, sum};
 use sg_num::{Rat, Row, Stop};
 use std::alloc::{AllocError, Global};
 
@@ -70,8 +69,8 @@ pub fn with_multiple(alloc: Global, p: &[Rat], c: Rat, q: &[Rat]) -> Result<Row<
     let mut result = Row::new(alloc);
     let size = p.len().max(q.len());
     for i in 0..size {
-        let more = product(c, coefficient(q, i))?;
-        let next = sum(coefficient(p, i), more)?;
+        let more = c.times(coefficient(q, i))?;
+        let next = coefficient(p, i).plus(more)?;
         result.push(next)?;
     }
     Ok(result)

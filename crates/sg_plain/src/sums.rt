@@ -8,7 +8,6 @@ ghost use Rattle.sg_num.specs.Stopped.{KeepsWideStep};
 ghost use Rattle.sg_plain.specs.Evaluation.{value_at};
 
 use crate::polynomial::{added, constant, shifted, with_multiple};
-use crate::step::{difference, product, quotient, sum};
 use sg_num::{Rat, Row, Stop};
 use std::alloc::{AllocError, Global};
 
@@ -22,7 +21,7 @@ pub fn summed(alloc: Global, p: &[Rat], a: i64) -> Result<Row<Rat>, Stop>
     let q = rows.telescoped(alloc, p)?;
     let all = shifted(alloc, q.as_slice())?;
     let before = value_of(all.as_slice(), Rat::whole(a as i128 - 1))?;
-    let opposite = difference(Rat::whole(0), before)?;
+    let opposite = Rat::whole(0).minus(before)?;
     let lowest = constant(alloc, opposite)?;
     let result = added(alloc, lowest.as_slice(), all.as_slice())?;
     Ok(result)
@@ -37,8 +36,8 @@ fn value_of(p: &[Rat], x: Rat) -> Result<Rat, Stop>
         None => Ok(Rat::whole(0)),
         Some((c, rest)) => {
             let above = value_of(rest, x)?;
-            let more = product(x, above)?;
-            let v = sum(*c, more)?;
+            let more = x.times(above)?;
+            let v = c.plus(more)?;
             Ok(v)
         }
     }
@@ -106,8 +105,8 @@ impl Differences {
             Some((c, rest)) => match self {
                 Differences::End => Ok(Row::new(alloc)),
                 Differences::Next { lower, below } => {
-                    let t = quotient(*c, one_more(rest.len()))?;
-                    let minus_t = quotient(*c, minus_one_more(rest.len()))?;
+                    let t = c.over(one_more(rest.len()))?;
+                    let minus_t = c.over(minus_one_more(rest.len()))?;
                     let left = with_multiple(alloc, rest, minus_t, lower.as_slice())?;
                     let q = below.telescoped(alloc, left.as_slice())?;
                     let all = with_top(alloc, q.as_slice(), t)?;

@@ -1,8 +1,8 @@
 ghost use Rattle.std.specs.Prelude.{◌≡◌, ◌≢◌, pos, ◌<ℤ◌, ◌*ℤ◌, neg_ℤ, unsigned_abs, map, IfOk, IfErr};
 ghost use Rattle.sg_expr.specs.Tree.{tree_of};
 ghost use Rattle.sg_algebra.specs.Coefficients.{Each};
-ghost use Rattle.sg_num.specs.Stopped.{KeepsWideStep};
-ghost use Rattle.sg_plain.specs.Linear.{IsMemory, IsSmall};
+ghost use Rattle.sg_num.specs.Stopped.{IsMemory, KeepsWideStep};
+ghost use Rattle.sg_plain.specs.Linear.{IsSmall};
 ghost use Rattle.sg_plain.specs.Terms.{term};
 ghost use Rattle.sg_spec.specs.Tree.{numeral, add, neg, div};
 ghost use Rattle.sg_spec.specs.Plain.{raised, monomial, joined, with_terms, numerator, leads_below_zero, canonical};

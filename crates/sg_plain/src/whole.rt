@@ -1,13 +1,10 @@
 ghost use Rattle.std.specs.Prelude.{◌≡◌, ◌*ℤ◌, neg_ℤ, map, IfOk, IfErr};
 ghost use Rattle.sg_algebra.specs.Coefficients.{Each};
-ghost use Rattle.sg_num.specs.Stopped.{KeepsWideStep};
-ghost use Rattle.sg_plain.specs.Linear.{IsMemory, IsSmall};
+ghost use Rattle.sg_num.specs.Stopped.{IsMemory, KeepsWideStep};
+ghost use Rattle.sg_plain.specs.Linear.{IsSmall};
 
-use crate::step::{difference, product};
-use sg_num::{Rat, Row, Stop};
+use sg_num::{Row, Stop, whole_difference, whole_product};
 use std::alloc::Global;
-
-// Whole numbers. Each operation is a step of fractions, so that one that doesn't fit is kept.
 
 /// The opposites of all numbers of a list.
 pub fn opposites(alloc: Global, list: &[i128]) -> Result<Row<i128>, Stop>
@@ -32,8 +29,8 @@ pub fn opposite(a: i128) -> Result<i128, Stop>
     if a != i128::MIN {
         return Ok(-a);
     }
-    let r = difference(Rat::whole(0), Rat::whole(a))?;
-    Ok(r.num())
+    let r = whole_difference(0, a)?;
+    Ok(r)
 }
 
 /// All numbers of a list times b.
@@ -47,13 +44,4 @@ pub fn multiples(alloc: Global, list: &[i128], b: i128) -> Result<Row<i128>, Sto
         result.push(r)?;
     }
     Ok(result)
-}
-
-/// a b.
-pub fn whole_product(a: i128, b: i128) -> Result<i128, Stop>
-    ensures value { IfOk result (λ r. r ≡ a *ℤ b) }
-    ensures wide { IfErr result KeepsWideStep }
-{
-    let r = product(Rat::whole(a), Rat::whole(b))?;
-    Ok(r.num())
 }

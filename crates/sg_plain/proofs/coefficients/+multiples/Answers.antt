@@ -19,7 +19,7 @@ add_part-returns-in_ok-d-in-Num-clause-value t c = rw c.in-Num.is
     (let fits : FitsSigned w128 c.in-Num.n = search rules in
     let e : fraction c.whole.result ≡ whole c.in-Num.n = simp to_z-of_z at c.whole.ensures.value in
     on_ok c.add_term.result _ _
-    (λ h x. h x ∙ number-more (value_at c.args.total.now.items x) (number c.args.c) (number c.in_ok-d-in-Num.d) (number c.whole.result) (whole_value 0 c.in-Num.n) x c.in_ok-d-in-Num.ensures.value (number-whole c.whole.result c.in-Num.n e))
+    (λ h x. h x ∙ number-more (value_at c.args.total.now.items x) (number c.args.c) (number c.in_ok-d-in-Num.d) (number c.whole.result) (whole_value 0 c.in-Num.n) x c.in_ok-d-in-Num.ensures.as_number (number-whole c.whole.result c.in-Num.n e))
     c.add_term.ensures.value)
 
 pub add_part-returns-in-Here-clause-value : goal.add_part-returns-in-Here-clause-value
@@ -37,7 +37,7 @@ pub add_part-returns-in_ok-minus-in-Neg-clause-value : goal.add_part-returns-in_
 add_part-returns-in_ok-minus-in-Neg-clause-value t c = rw c.in-Neg.is
     (on_ok c.add_multiple-in-Neg.result _ _
     (λ h x. opposite-more (value_at c.add_multiple-in-Neg.new.total.items x) (value_at c.args.total.now.items x) (number c.args.c) (number c.whole-in-Neg.result) (number c.in_ok-minus-in-Neg.minus) (plain_value (tree_of c.in-Neg.a.value) x)
-    c.in_ok-minus-in-Neg.ensures.value (number-whole c.whole-in-Neg.result (pos 0) c.whole-in-Neg.ensures.value) (rw c.deref-in-Neg.ensures at (h x)))
+    c.in_ok-minus-in-Neg.ensures.as_number (number-whole c.whole-in-Neg.result (pos 0) c.whole-in-Neg.ensures.value) (rw c.deref-in-Neg.ensures at (h x)))
     c.add_multiple-in-Neg.ensures.value)
 
 pub add_part-returns-in_ok-d-in-Some-clause-value : goal.add_part-returns-in_ok-d-in-Some-clause-value
@@ -48,7 +48,7 @@ add_part-returns-in_ok-d-in-Some-clause-value t c = rw c.in-Mul.is
     let factor : tree_of c.in-Mul.a.value ≡ numeral c.in-Some.n = rw c.deref-in-Mul.ensures at lent in
     on_ok c.add_multiple-in-Some.result _ _
     (λ h x. product-more (value_at c.add_multiple-in-Some.new.total.items x) (value_at c.args.total.now.items x) (number c.args.c) (number c.in_ok-d-in-Some.d) (number c.whole-in-Some.result) (plain_value (tree_of c.in-Mul.a.value) x) (plain_value (tree_of c.in-Mul.b.value) x)
-    c.in_ok-d-in-Some.ensures.value (number-whole c.whole-in-Some.result c.in-Some.n e ∙ ap (λ (u : Tree). plain_value u x) (sym factor)) (rw c.deref-in-Some.ensures at (h x)))
+    c.in_ok-d-in-Some.ensures.as_number (number-whole c.whole-in-Some.result c.in-Some.n e ∙ ap (λ (u : Tree). plain_value u x) (sym factor)) (rw c.deref-in-Some.ensures at (h x)))
     c.add_multiple-in-Some.ensures.value)
 
 pub add_multiple-loop-left-preserved : goal.add_multiple-loop-left-preserved

@@ -11,7 +11,7 @@ loop-i-init c = λ x. all-start c.args.p.now c.args.total.now.items c.args.c x
 pub loop-i-preserved : goal.loop-i-preserved
 loop-i-preserved c = λ x.
     all-next c.args.p.now c.loop-i.total.items c.add_term.new.total.items c.loop-i.i c.args.c c.coefficient.result c.in_ok-more.more x (value_at c.args.total.now.items x +ᵛ number c.args.c *ᵛ value_at c.args.p.now x)
-    (c.loop-i.invariant x) (c.coefficient.ensures x) c.in_ok-more.ensures.value (c.in_ok-add_term.ensures.value x)
+    (c.loop-i.invariant x) (c.coefficient.ensures x) c.in_ok-more.ensures.as_number (c.in_ok-add_term.ensures.value x)
 
 pub returns-clause-value : goal.returns-clause-value
 returns-clause-value c = λ x.

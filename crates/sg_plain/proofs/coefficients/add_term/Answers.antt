@@ -9,6 +9,6 @@ use Rattle.sg_plain.proofs.coefficients.add_term.Goals as goal
 pub returns-clause-value : goal.returns-clause-value
 returns-clause-value c = λ x.
     let read : c.index.result.now ≡ slice_index_or c.pad.new.total.items c.args.degree c.index.result.now = search rules in
-    let e : number c.in_ok-next.next ≡ number (slice_index_or c.pad.new.total.items c.args.degree c.index.result.now) +ᵛ number c.args.c = c.in_ok-next.ensures.value ∙ ap (λ r. number r +ᵛ number c.args.c) read in
+    let e : number c.in_ok-next.next ≡ number (slice_index_or c.pad.new.total.items c.args.degree c.index.result.now) +ᵛ number c.args.c = c.in_ok-next.ensures.as_number ∙ ap (λ r. number r +ᵛ number c.args.c) read in
     set-value c.pad.new.total.items c.args.degree c.in_ok-next.next c.args.c c.index.result.now x c.in_ok-pad.ensures.room e
     ∙ ap (λ v. v +ᵛ number c.args.c *ᵛ pow (ValueR 0) x c.args.degree) (c.in_ok-pad.ensures.value x)

@@ -16,7 +16,7 @@ pub loop-i-preserved : goal.loop-i-preserved
 loop-i-preserved c = record {
   value = λ x. multiple-next c.args.p.now c.args.q.now c.loop-i.result c.push.new.self c.loop-i.i c.args.c c.coefficient-in-loop-i.result c.coefficient.result c.in_ok-more.more c.in_ok-next.next x
       (value_at c.args.p.now x +ᵛ number c.args.c *ᵛ value_at c.args.q.now x) c.in_ok-push.ensures.ok c.loop-i.invariant.size (c.loop-i.invariant.value x)
-      (c.coefficient-in-loop-i.ensures x) (c.coefficient.ensures x) c.in_ok-more.ensures.value c.in_ok-next.ensures.value;
+      (c.coefficient-in-loop-i.ensures x) (c.coefficient.ensures x) c.in_ok-more.ensures.as_number c.in_ok-next.ensures.as_number;
   size = let e = ap length c.in_ok-push.ensures.ok in let f = length-append c.loop-i.result (c.in_ok-next.next ∷ []) in let k = c.loop-i.invariant.size in omega (arith, e, f, k);
 }
 

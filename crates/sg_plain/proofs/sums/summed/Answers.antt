@@ -20,5 +20,5 @@ returns-clause-start c =
     let e : to_z w128 (of_z w128 (to_z w128 (of_z w128 (to_z w64 (of_z w64 c.args.a))) -ℤ pos 1)) ≡ c.args.a -ℤ pos 1 = omega (arith, ints) in
     let at : number c.whole.result ≡ whole_value 0 (c.args.a -ℤ pos 1) = number-whole c.whole.result (c.args.a -ℤ pos 1) (c.whole.ensures.value ∙ ap whole e) in
     summed-start c.in_ok-all.all c.as_slice-2.result.now c.as_slice-4.result.now c.in_ok-lowest.lowest c.as_slice-3.result.now c.in_ok-result.result c.in_ok-opposite.opposite c.whole-2.result c.in_ok-before.before
-    (whole_value 0 (c.args.a -ℤ pos 1)) c.as_slice-2.ensures (c.in_ok-before.ensures.value ∙ ap (value_at c.as_slice-2.result.now) at) c.whole-2.ensures.value c.in_ok-opposite.ensures.value
+    (whole_value 0 (c.args.a -ℤ pos 1)) c.as_slice-2.ensures (c.in_ok-before.ensures.value ∙ ap (value_at c.as_slice-2.result.now) at) c.whole-2.ensures.value c.in_ok-opposite.ensures.as_number
     c.as_slice-4.ensures c.in_ok-lowest.ensures c.as_slice-3.ensures (c.in_ok-result.ensures.value (whole_value 0 (c.args.a -ℤ pos 1)))

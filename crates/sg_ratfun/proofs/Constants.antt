@@ -1,27 +1,24 @@
 -- Constants as fractions of polynomials.
---   one_item, one_unit    the polynomial of a row that holds one item; where this is 1
+--   small_denominator, small_numerator    a monic polynomial of one coefficient is 1; one of at most one coefficient is a constant
+--   not_longer          without zeros at its end a constant has one coefficient at most
+--   parts_of_constant   a fraction in lowest terms that is a constant is this constant over 1
 --   constant_reduced    a constant over 1 is reduced
 --   constant-zero, constant-one, constant-rational    what the constants 0, 1 and a fraction stand for
-use Rattle.std.proofs.Common.{◌≡◌, ℕ, zero, suc, ◌<◌, refl, sym, ◌∙◌, ap, ap₂, List, [], ◌∷◌, ◌++◌, map, ℤ, arith}
+use Rattle.std.proofs.Common.{◌≡◌, ℕ, zero, suc, ◌<◌, ◌≤◌, refl, sym, ◌∙◌, ap, ap₂, List, [], ◌∷◌, length, ℤ, arith}
 use Rattle.sg_algebra.proofs.Ring.{nat}
 use Rattle.sg_algebra.proofs.Coprime.{coprime_one}
 use Rattle.sg_algebra.proofs.Value.{Value, over_value, zero_value, one_value, ◌/ᵛ◌}
-use Rattle.sg_algebra.proofs.ValueField.{ValueR, value_quotient, value_product}
+use Rattle.sg_algebra.proofs.ValueField.{ValueR, value_quotient, value_product, value_one_ne}
 use Rattle.sg_algebra.proofs.OverValue.{over_value-self}
 use Rattle.sg_algebra.proofs.Embedding.{constant_value, constant_valueH, constant_value-nat, constant_value-whole, numeral_ne}
 use Rattle.sg_algebra.proofs.Rational.{whole_value, rational_value}
-use Rattle.sg_algebra.proofs.Polynomial.{Polynomial, PolynomialR, poly, poly_cong, poly_same, coefficient, zero_polynomial, one_polynomial, polynomial_one_ne}
+use Rattle.sg_algebra.proofs.Polynomial.{Polynomial, PolynomialR, poly, poly_cong, poly_same, same_poly, coefficient, EndsNonzero, zero_polynomial, one_polynomial, polynomial_one_ne}
 use Rattle.sg_poly.specs.Divisors.{IsMonic}
 use Rattle.sg_ratfun.specs.Reduced.{IsReduced}
 use Rattle.sg_ratfun.proofs.Monics.{monic_cong}
-use Rattle.sg_ratfun.proofs.Quotients.{over_zero, over_equal}
-
-module _ {K : Type 0} {d : ℕ} (v : K → Value d) where
-  pub one_item : {p : Polynomial d} {row start : List K} (x : K) → p ≡ poly (map v row) → row ≡ start ++ x ∷ [] → start ≡ [] → p ≡ poly (v x ∷ [])
-  one_item x e h s = e ∙ ap (λ r. poly (map v r)) (h ∙ ap (λ r. r ++ x ∷ []) s)
-
-  pub one_unit : {p : Polynomial d} {row start : List K} (x : K) → p ≡ poly (map v row) → row ≡ start ++ x ∷ [] → start ≡ [] → v x ≡ one_value → p ≡ one_polynomial
-  one_unit x e h s u = one_item x e h s ∙ ap (λ y. poly (y ∷ [])) u
+use Rattle.sg_poly.proofs.Dividers.{monic_some}
+use Rattle.sg_ratfun.proofs.Coprimes.{lowest_parts}
+use Rattle.sg_ratfun.proofs.Quotients.{over_zero, over_equal, cross_over}
 
 module _ {d : ℕ} where
   one_monic : IsMonic (one_value {d = d} ∷ [])
@@ -55,3 +52,26 @@ module _ {d : ℕ} where
       value_quotient (constant_value d (whole_value d n)) (constant_value d (nat (ValueR d) m)) (constant_value d (rational_value d n m)) (λ z. numeral_ne (suc d) m h (sym (constant_value-nat d m) ∙ z))
       (sym ((constant_valueH d).on-mul (rational_value d n m) (nat (ValueR d) m)) ∙ ap (constant_value d) (value_product (whole_value d n) (nat (ValueR d) m) (numeral_ne d m h)))
       ∙ ap₂ ◌/ᵛ◌ (constant_value-whole d n) (constant_value-nat d m))
+
+  -- ---- Which fractions are constants
+
+  pub small_denominator : (m : List (Value d)) → IsMonic m → length m ≤ 1 → poly m ≡ one_polynomial
+  small_denominator [] k l = absurd (value_one_ne d (sym k.1.top))
+  small_denominator (x ∷ []) (zero, k) l = ap (λ y. poly (y ∷ [])) k.top
+  small_denominator (x ∷ []) (suc n, k) l = absurd (value_one_ne d (sym k.top))
+  small_denominator (x ∷ y ∷ m) k l = absurd (omega arith)
+
+  pub small_numerator : (n : List (Value d)) → length n ≤ 1 → poly n ≡ poly (coefficient n 0 ∷ [])
+  small_numerator [] l = sym no_constant
+  small_numerator (x ∷ []) l = refl
+  small_numerator (x ∷ y ∷ n) l = absurd (omega arith)
+
+  pub not_longer : (n : List (Value d)) (c : Value d) → EndsNonzero n → poly n ≡ poly (c ∷ []) → length n ≤ 1
+  not_longer [] c e h = omega arith
+  not_longer (x ∷ []) c e h = omega arith
+  not_longer (x ∷ y ∷ n) c e h = absurd (e (suc (length n)) refl (same_poly (x ∷ y ∷ n) (c ∷ []) h (suc (length n))))
+
+  pub parts_of_constant : (n m : List (Value d)) (c : Value d) → IsReduced n m → over_value n m ≡ over_value (c ∷ []) (one_value ∷ []) → (poly n ≡ poly (c ∷ [])) × (poly m ≡ one_polynomial)
+  parts_of_constant n m c r e =
+      let k = constant_reduced (c ∷ []) (one_value ∷ []) refl in
+      lowest_parts n m (c ∷ []) (one_value ∷ []) r.coprime k.coprime r.monic k.monic (cross_over n m (c ∷ []) (one_value ∷ []) (monic_some m r.monic) (λ z. polynomial_one_ne z) e)

@@ -215,3 +215,7 @@ module _ {K : Type 0} {d : ℕ} (v : K → Value d) (args : List ℤ) where
 pub not_zero : (t : Bool) (r : Rat) → t ≡ false → (IsTrue t ↔ (r.num ≡ pos 0)) → r.num ≢ pos 0
 not_zero true r e i z = search (rules, e)
 not_zero false r e i z = search (rules, i.1 z)
+
+pub not_zero_number : (t : Bool) (r : Rat) → t ≡ false → (IsTrue t ↔ (number r ≡ zero_value)) → ¬ (number r ≡ zero_value)
+not_zero_number true r e i z = search (rules, e)
+not_zero_number false r e i z = search (rules, i.1 z)

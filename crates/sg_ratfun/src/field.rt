@@ -4,26 +4,13 @@ ghost use Rattle.sg_algebra.proofs.Rational.{rational_value};
 ghost use Rattle.sg_num.specs.Stopped.{KeepsWideStep};
 ghost use Rattle.sg_ratfun.specs.Reduced.{IsReduced};
 
+use crate::guess::guessed;
 use crate::parts::{Parts, difference, product, quotient, sum};
 use crate::probe::probed;
 use crate::ratfun::RatFun;
 use sg_num::{Field, Probe, Rat, Row, Stop};
 use sg_poly::Poly;
 use std::alloc::Global;
-
-// A constant over 1.
-fn constant<F: Field>(alloc: Global, c: F) -> Result<RatFun<F>, Stop>
-    ensures value { IfOk result (λ r. over_value (map F.val r.0) (map F.val r.1) ≡ over_value (F.val c ∷ []) (one_value ∷ [])) }
-    ensures wide { IfErr result KeepsWideStep }
-{
-    let mut upper = Row::new(alloc);
-    upper.push(c)?;
-    let mut lower = Row::new(alloc);
-    lower.push(F::one(alloc)?)?;
-    let num = Poly::from_coeffs(alloc, upper)?;
-    let den = Poly::from_coeffs(alloc, lower)?;
-    Ok(RatFun::of(Parts { num, den }))
-}
 
 /// Rational functions over a field are a field with one variable more. Sums go over the least common denominator, and products
 /// first lose what is common across, as Henrici does with fractions (Knuth, The Art of Computer Programming, 4.5.1), so that
@@ -38,19 +25,19 @@ impl<F: Field> Field for RatFun<F> {
 
     fn zero(alloc: Global) -> Result<RatFun<F>, Stop> {
         let c = F::zero(alloc)?;
-        let r = constant(alloc, c)?;
+        let r = RatFun::from_constant(alloc, c)?;
         Ok(r)
     }
 
     fn one(alloc: Global) -> Result<RatFun<F>, Stop> {
         let c = F::one(alloc)?;
-        let r = constant(alloc, c)?;
+        let r = RatFun::from_constant(alloc, c)?;
         Ok(r)
     }
 
     fn from_rat(alloc: Global, r: Rat) -> Result<RatFun<F>, Stop> {
         let c = F::from_rat(alloc, r)?;
-        let x = constant(alloc, c)?;
+        let x = RatFun::from_constant(alloc, c)?;
         Ok(x)
     }
 
@@ -121,5 +108,10 @@ impl<F: Field> Field for RatFun<F> {
     fn probe(alloc: Global, list: &Row<RatFun<F>>) -> Result<Probe, Stop> {
         let p = probed(alloc, list)?;
         Ok(p)
+    }
+
+    fn linear_roots(alloc: Global, p: &[RatFun<F>]) -> Result<Row<RatFun<F>>, Stop> {
+        let r = guessed(alloc, p)?;
+        Ok(r)
     }
 }

@@ -2,6 +2,7 @@
 #![tactic(auto)]
 
 mod field;
+mod guess;
 mod parts;
 mod probe;
 mod ratfun;

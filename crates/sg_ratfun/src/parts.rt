@@ -2,6 +2,8 @@ ghost use Rattle.std.specs.Prelude.{◌≡◌, length, map, IfOk, IfErr};
 ghost use Rattle.sg_algebra.proofs.Value.{over_value, ◌+ᵛ◌, ◌-ᵛ◌, ◌*ᵛ◌, ◌/ᵛ◌, one_value};
 ghost use Rattle.sg_algebra.proofs.Polynomial.{poly, ◌+ᵖ◌, ◌-ᵖ◌, ◌*ᵖ◌, zero_polynomial};
 ghost use Rattle.sg_num.specs.Stopped.{KeepsWideStep};
+ghost use Rattle.sg_poly.specs.Polynomials.{polynomial};
+ghost use Rattle.sg_ratfun.specs.Fractions.{quotient_of};
 ghost use Rattle.sg_ratfun.specs.Reduced.{IsReduced};
 
 use crate::split::{lead_inverse, split};
@@ -18,8 +20,8 @@ pub(crate) struct Parts<F: Field> {
 
 // p / q in lowest terms, with a monic denominator.
 pub(crate) fn lowest<F: Field>(alloc: Global, p: &Poly<F>, q: &Poly<F>) -> Result<Parts<F>, Stop>
-    requires { ¬ (poly (map F.val q.now) ≡ zero_polynomial) }
-    ensures value { IfOk result (λ r. over_value (map F.val r.num) (map F.val r.den) ≡ over_value (map F.val p.now) (map F.val q.now)) }
+    requires { ¬ (polynomial F.val q.now ≡ zero_polynomial) }
+    ensures value { IfOk result (λ r. quotient_of F.val r.num r.den ≡ quotient_of F.val p.now q.now) }
     ensures reduced { IfOk result (λ r. IsReduced (map F.val r.num) (map F.val r.den)) }
     ensures wide { IfErr result KeepsWideStep }
 {
@@ -40,7 +42,7 @@ pub(crate) fn product<F: Field>(
 ) -> Result<Parts<F>, Stop>
     requires left { IsReduced (map F.val a.now) (map F.val b.now) }
     requires right { IsReduced (map F.val c.now) (map F.val e.now) }
-    ensures value { IfOk result (λ r. over_value (map F.val r.num) (map F.val r.den) ≡ over_value (map F.val a.now) (map F.val b.now) *ᵛ over_value (map F.val c.now) (map F.val e.now)) }
+    ensures value { IfOk result (λ r. quotient_of F.val r.num r.den ≡ quotient_of F.val a.now b.now *ᵛ quotient_of F.val c.now e.now) }
     ensures reduced { IfOk result (λ r. IsReduced (map F.val r.num) (map F.val r.den)) }
     ensures wide { IfErr result KeepsWideStep }
 {
@@ -59,7 +61,7 @@ fn crossed_sum<F: Field>(
     c: &Poly<F>,
     e: &Poly<F>,
 ) -> Result<Poly<F>, Stop>
-    ensures value { IfOk result (λ n. poly (map F.val n) ≡ poly (map F.val a.now) *ᵖ poly (map F.val e.now) +ᵖ poly (map F.val c.now) *ᵖ poly (map F.val b.now)) }
+    ensures value { IfOk result (λ n. polynomial F.val n ≡ polynomial F.val a.now *ᵖ polynomial F.val e.now +ᵖ polynomial F.val c.now *ᵖ polynomial F.val b.now) }
     ensures wide { IfErr result KeepsWideStep }
 {
     let x = a.mul(alloc, e)?;
@@ -76,7 +78,7 @@ fn crossed_difference<F: Field>(
     c: &Poly<F>,
     e: &Poly<F>,
 ) -> Result<Poly<F>, Stop>
-    ensures value { IfOk result (λ n. poly (map F.val n) ≡ poly (map F.val a.now) *ᵖ poly (map F.val e.now) -ᵖ poly (map F.val c.now) *ᵖ poly (map F.val b.now)) }
+    ensures value { IfOk result (λ n. polynomial F.val n ≡ polynomial F.val a.now *ᵖ polynomial F.val e.now -ᵖ polynomial F.val c.now *ᵖ polynomial F.val b.now) }
     ensures wide { IfErr result KeepsWideStep }
 {
     let x = a.mul(alloc, e)?;
@@ -92,7 +94,7 @@ fn product_of_three<F: Field>(
     b: &Poly<F>,
     c: &Poly<F>,
 ) -> Result<Poly<F>, Stop>
-    ensures value { IfOk result (λ m. poly (map F.val m) ≡ (poly (map F.val a.now) *ᵖ poly (map F.val b.now)) *ᵖ poly (map F.val c.now)) }
+    ensures value { IfOk result (λ m. polynomial F.val m ≡ (polynomial F.val a.now *ᵖ polynomial F.val b.now) *ᵖ polynomial F.val c.now) }
     ensures wide { IfErr result KeepsWideStep }
 {
     let x = a.mul(alloc, b)?;
@@ -110,7 +112,7 @@ pub(crate) fn sum<F: Field>(
 ) -> Result<Parts<F>, Stop>
     requires left { IsReduced (map F.val a.now) (map F.val b.now) }
     requires right { IsReduced (map F.val c.now) (map F.val e.now) }
-    ensures value { IfOk result (λ r. over_value (map F.val r.num) (map F.val r.den) ≡ over_value (map F.val a.now) (map F.val b.now) +ᵛ over_value (map F.val c.now) (map F.val e.now)) }
+    ensures value { IfOk result (λ r. quotient_of F.val r.num r.den ≡ quotient_of F.val a.now b.now +ᵛ quotient_of F.val c.now e.now) }
     ensures reduced { IfOk result (λ r. IsReduced (map F.val r.num) (map F.val r.den)) }
     ensures wide { IfErr result KeepsWideStep }
 {
@@ -131,7 +133,7 @@ pub(crate) fn difference<F: Field>(
 ) -> Result<Parts<F>, Stop>
     requires left { IsReduced (map F.val a.now) (map F.val b.now) }
     requires right { IsReduced (map F.val c.now) (map F.val e.now) }
-    ensures value { IfOk result (λ r. over_value (map F.val r.num) (map F.val r.den) ≡ over_value (map F.val a.now) (map F.val b.now) -ᵛ over_value (map F.val c.now) (map F.val e.now)) }
+    ensures value { IfOk result (λ r. quotient_of F.val r.num r.den ≡ quotient_of F.val a.now b.now -ᵛ quotient_of F.val c.now e.now) }
     ensures reduced { IfOk result (λ r. IsReduced (map F.val r.num) (map F.val r.den)) }
     ensures wide { IfErr result KeepsWideStep }
 {
@@ -145,8 +147,8 @@ pub(crate) fn difference<F: Field>(
 // e / c, with a monic denominator, for a c that isn't 0.
 fn inverted<F: Field>(alloc: Global, c: &Poly<F>, e: &Poly<F>) -> Result<Parts<F>, Stop>
     requires reduced { IsReduced (map F.val c.now) (map F.val e.now) }
-    requires some { ¬ (poly (map F.val c.now) ≡ zero_polynomial) }
-    ensures value { IfOk result (λ r. over_value (map F.val r.num) (map F.val r.den) *ᵛ over_value (map F.val c.now) (map F.val e.now) ≡ one_value) }
+    requires some { ¬ (polynomial F.val c.now ≡ zero_polynomial) }
+    ensures value { IfOk result (λ r. quotient_of F.val r.num r.den *ᵛ quotient_of F.val c.now e.now ≡ one_value) }
     ensures reduced { IfOk result (λ r. IsReduced (map F.val r.num) (map F.val r.den)) }
     ensures wide { IfErr result KeepsWideStep }
 {
@@ -166,8 +168,8 @@ pub(crate) fn quotient<F: Field>(
 ) -> Result<Parts<F>, Stop>
     requires left { IsReduced (map F.val a.now) (map F.val b.now) }
     requires right { IsReduced (map F.val c.now) (map F.val e.now) }
-    requires some { ¬ (poly (map F.val c.now) ≡ zero_polynomial) }
-    ensures value { IfOk result (λ r. over_value (map F.val r.num) (map F.val r.den) ≡ over_value (map F.val a.now) (map F.val b.now) /ᵛ over_value (map F.val c.now) (map F.val e.now)) }
+    requires some { ¬ (polynomial F.val c.now ≡ zero_polynomial) }
+    ensures value { IfOk result (λ r. quotient_of F.val r.num r.den ≡ quotient_of F.val a.now b.now /ᵛ quotient_of F.val c.now e.now) }
     ensures reduced { IfOk result (λ r. IsReduced (map F.val r.num) (map F.val r.den)) }
     ensures wide { IfErr result KeepsWideStep }
 {

@@ -1,12 +1,12 @@
-ghost use Rattle.std.specs.Prelude.{◌≡◌, map, IfOk, IfErr, IfSome, IfNone, ℤ};
-ghost use Rattle.sg_algebra.specs.Coefficients.{eval};
-ghost use Rattle.sg_algebra.proofs.Value.{over_value, zero_value, one_value, ◌/ᵛ◌};
-ghost use Rattle.sg_algebra.proofs.ValueField.{ValueR};
+ghost use Rattle.std.specs.Prelude.{◌≡◌, [], ◌∷◌, map, IfOk, IfErr, IfSome, IfNone, ℤ};
+ghost use Rattle.sg_algebra.proofs.Value.{Value, over_value, zero_value, one_value, ◌/ᵛ◌};
+ghost use Rattle.sg_algebra.proofs.Embedding.{constant_value};
 ghost use Rattle.sg_algebra.proofs.Rational.{whole_value};
-ghost use Rattle.sg_algebra.proofs.Shift.{moved};
-ghost use Rattle.sg_algebra.proofs.Polynomial.{poly, zero_polynomial};
+ghost use Rattle.sg_algebra.proofs.Polynomial.{coefficient, zero_polynomial, one_polynomial};
 ghost use Rattle.sg_num.specs.Stopped.{KeepsWideStep};
 ghost use Rattle.sg_poly.specs.Divisors.{IsMonic};
+ghost use Rattle.sg_poly.specs.Polynomials.{polynomial, polynomial_at};
+ghost use Rattle.sg_ratfun.specs.Fractions.{ratio, quotient_of, moved_ratio};
 ghost use Rattle.sg_ratfun.specs.Reduced.{IsReduced};
 
 use crate::parts::{Parts, lowest};
@@ -38,13 +38,52 @@ impl<F: Field> RatFun<F> {
     /// The fraction `num / den`, whose denominator isn't 0, in lowest terms: without the greatest common divisor, which Euclid's
     /// divisions find, and with a monic denominator.
     pub fn new(alloc: Global, num: Poly<F>, den: Poly<F>) -> Result<RatFun<F>, Stop>
-        requires { ¬ (poly (map F.val den) ≡ zero_polynomial) }
-        ensures value { IfOk result (λ r. over_value (map F.val r.0) (map F.val r.1) ≡ over_value (map F.val num) (map F.val den)) }
+        requires { ¬ (polynomial F.val den ≡ zero_polynomial) }
+        ensures value { IfOk result (λ r. ratio F.val r ≡ quotient_of F.val num den) }
         ensures reduced { IfOk result (λ r. IsReduced (map F.val r.0) (map F.val r.1)) }
         ensures wide { IfErr result KeepsWideStep }
     {
         let parts = lowest(alloc, &num, &den)?;
         Ok(RatFun::of(parts))
+    }
+
+    /// The polynomial as a fraction, over 1.
+    pub fn from_poly(alloc: Global, num: Poly<F>) -> Result<RatFun<F>, Stop>
+        ensures value { IfOk result (λ r. ratio F.val r ≡ over_value (map F.val num) (one_value ∷ [])) }
+        ensures num { IfOk result (λ r. r.0 ≡ num) }
+        ensures den { IfOk result (λ r. polynomial F.val r.1 ≡ one_polynomial) }
+        ensures wide { IfErr result KeepsWideStep }
+    {
+        let den = Poly::one(alloc)?;
+        Ok(RatFun::of(Parts { num, den }))
+    }
+
+    /// The constant as a fraction.
+    pub fn from_constant(alloc: Global, c: F) -> Result<RatFun<F>, Stop>
+        ensures value { IfOk result (λ r. ratio F.val r ≡ constant_value F.vars (F.val c)) }
+        ensures wide { IfErr result KeepsWideStep }
+    {
+        let num = Poly::constant(alloc, c)?;
+        let den = Poly::one(alloc)?;
+        Ok(RatFun::of(Parts { num, den }))
+    }
+
+    /// The constant that it is; None exactly where it is no constant.
+    pub fn constant(&self, alloc: Global) -> Result<Option<F>, Stop>
+        ensures some { IfOk result (λ o. IfSome o (λ c. ratio F.val self.now ≡ constant_value F.vars (F.val c))) }
+        ensures none { IfOk result (λ o. IfNone o ((c : Value F.vars) → ¬ (ratio F.val self.now ≡ constant_value F.vars c))) }
+        ensures wide { IfErr result KeepsWideStep }
+    {
+        let p = self.upper().coeffs();
+        let q = self.lower().coeffs();
+        if p.len() > 1 {
+            return Ok(None);
+        }
+        if q.len() > 1 {
+            return Ok(None);
+        }
+        let c = first_or_zero(alloc, p)?;
+        Ok(Some(c))
     }
 
     // The fraction of these parts.
@@ -76,7 +115,7 @@ impl<F: Field> RatFun<F> {
 
     /// The numerator in lowest terms.
     pub fn num(&self, alloc: Global) -> Result<Poly<F>, Stop>
-        ensures value { IfOk result (λ p. poly (map F.val p) ≡ poly (map F.val self.now.0)) }
+        ensures value { IfOk result (λ p. polynomial F.val p ≡ polynomial F.val self.now.0) }
         ensures reduced { IsReduced (map F.val self.now.0) (map F.val self.now.1) }
         ensures wide { IfErr result KeepsWideStep }
     {
@@ -86,7 +125,7 @@ impl<F: Field> RatFun<F> {
 
     /// The denominator in lowest terms, which is monic.
     pub fn den(&self, alloc: Global) -> Result<Poly<F>, Stop>
-        ensures value { IfOk result (λ p. poly (map F.val p) ≡ poly (map F.val self.now.1)) }
+        ensures value { IfOk result (λ p. polynomial F.val p ≡ polynomial F.val self.now.1) }
         ensures monic { IfOk result (λ p. IsMonic (map F.val p)) }
         ensures reduced { IsReduced (map F.val self.now.0) (map F.val self.now.1) }
         ensures wide { IfErr result KeepsWideStep }
@@ -97,9 +136,9 @@ impl<F: Field> RatFun<F> {
 
     /// The value at `x`; None exactly where the denominator is 0 there.
     pub fn value(&self, alloc: Global, x: &F) -> Result<Option<F>, Stop>
-        ensures some { IfOk result (λ o. IfSome o (λ v. F.val v ≡ eval (ValueR F.vars) (map F.val self.now.0) (F.val x.now) /ᵛ eval (ValueR F.vars) (map F.val self.now.1) (F.val x.now))) }
-        ensures defined { IfOk result (λ o. IfSome o (λ _. ¬ (eval (ValueR F.vars) (map F.val self.now.1) (F.val x.now) ≡ zero_value))) }
-        ensures none { IfOk result (λ o. IfNone o (eval (ValueR F.vars) (map F.val self.now.1) (F.val x.now) ≡ zero_value)) }
+        ensures some { IfOk result (λ o. IfSome o (λ v. F.val v ≡ polynomial_at F.val self.now.0 (F.val x.now) /ᵛ polynomial_at F.val self.now.1 (F.val x.now))) }
+        ensures defined { IfOk result (λ o. IfSome o (λ _. ¬ (polynomial_at F.val self.now.1 (F.val x.now) ≡ zero_value))) }
+        ensures none { IfOk result (λ o. IfNone o (polynomial_at F.val self.now.1 (F.val x.now) ≡ zero_value)) }
         ensures wide { IfErr result KeepsWideStep }
     {
         let below = self.lower().eval(alloc, x)?;
@@ -112,12 +151,24 @@ impl<F: Field> RatFun<F> {
 
     /// The fraction at k + m.
     pub fn shift_by(&self, alloc: Global, m: i128) -> Result<RatFun<F>, Stop>
-        ensures value { IfOk result (λ r. over_value (map F.val r.0) (map F.val r.1) ≡ over_value (moved (ValueR F.vars) (whole_value F.vars m) (map F.val self.now.0)) (moved (ValueR F.vars) (whole_value F.vars m) (map F.val self.now.1))) }
+        ensures value { IfOk result (λ r. ratio F.val r ≡ moved_ratio F.val (whole_value F.vars m) self.now) }
         ensures reduced { IfOk result (λ r. IsReduced (map F.val r.0) (map F.val r.1)) }
+        ensures own { IsReduced (map F.val self.now.0) (map F.val self.now.1) }
         ensures wide { IfErr result KeepsWideStep }
     {
         let num = self.upper().shift_by(alloc, m)?;
         let den = self.lower().shift_by(alloc, m)?;
         Ok(RatFun::of(Parts { num, den }))
     }
+}
+
+// The first coefficient, 0 where there is none.
+fn first_or_zero<F: Field>(alloc: Global, p: &[F]) -> Result<F, Stop>
+    ensures value { IfOk result (λ r. F.val r ≡ coefficient (map F.val p.now) 0) }
+    ensures wide { IfErr result KeepsWideStep }
+{
+    if p.is_empty() {
+        return F::zero(alloc);
+    }
+    p[0].copy(alloc)
 }

@@ -458,3 +458,135 @@ fn computes_in_a_tower(rt: HostRuntime) {
     }
     assert!(rt; matches!(tower_probe(rt.alloc()), Ok(true)));
 }
+
+// The product of k + e n + c over these pairs, over the fractions of polynomials in n.
+fn product_of(alloc: Global, factors: &[(i128, i128)]) -> Result<Poly<RatFun<Rat>>, Stop> {
+    let mut one = Row::new(alloc);
+    one.push(RatFun::one(alloc)?)?;
+    let mut p = Poly::from_coeffs(alloc, one)?;
+    for (e, c) in factors {
+        let mut row = Row::new(alloc);
+        row.push(fraction(alloc, &[*c, *e], &[1])?)?;
+        row.push(RatFun::one(alloc)?)?;
+        let factor = Poly::from_coeffs(alloc, row)?;
+        p = p.mul(alloc, &factor)?;
+    }
+    Ok(p)
+}
+
+// Whether the greatest common divisor of the first two products is the third.
+fn has_common(
+    alloc: Global,
+    p: &[(i128, i128)],
+    q: &[(i128, i128)],
+    want: &[(i128, i128)],
+) -> Result<bool, Stop> {
+    let p = product_of(alloc, p)?;
+    let q = product_of(alloc, q)?;
+    let w = product_of(alloc, want)?;
+    if p.is_zero() {
+        return Ok(false);
+    }
+    let r = p.gcd(alloc, &q)?;
+    r.same(alloc, &w)
+}
+
+// Products of linear factors in k and n: at the first and the last Euclid's divisions alone stop at a wide step.
+#[test]
+fn finds_common_factors_of_long_products(rt: HostRuntime) {
+    let cases: [[&[(i128, i128)]; 3]; 4] = [
+        [
+            &[(-1, 17), (0, -13), (-1, -5), (1, 11)],
+            &[(-1, 16), (0, -12), (-1, -7), (1, 19)],
+            &[],
+        ],
+        [
+            &[(-1, 17), (0, -13), (-1, -5), (1, 11), (2, 3)],
+            &[(-1, 16), (0, -12), (-1, -5), (1, 19), (2, 3)],
+            &[(-1, -5), (2, 3)],
+        ],
+        [
+            &[(-1, 170), (0, -130), (-1, -50), (-1, -50), (1, 110)],
+            &[(-1, 160), (0, -120), (-1, -50), (-1, -50), (1, 190)],
+            &[(-1, -50), (-1, -50)],
+        ],
+        [
+            &[
+                (-1, 170),
+                (0, -130),
+                (-1, -50),
+                (-2, -51),
+                (1, 110),
+                (-1, 4),
+                (0, 7),
+                (-1, 60),
+            ],
+            &[
+                (-1, 160),
+                (0, -120),
+                (-1, -51),
+                (-2, -50),
+                (1, 190),
+                (-1, 5),
+                (0, 8),
+                (-1, 60),
+            ],
+            &[(-1, 60)],
+        ],
+    ];
+    for [p, q, want] in cases {
+        assert!(rt;
+            matches!(has_common(rt.alloc(), p, q, want), Ok(true)),
+            "{p:?}"
+        );
+    }
+}
+
+// (k + 5) over the product of k + c over these numbers; at the second pair Euclid's divisions alone stop at a wide step.
+fn over_product(alloc: Global, factors: &[i128]) -> Result<RatFun<Rat>, Stop> {
+    let mut p = whole(alloc, &[1])?;
+    for c in factors {
+        let factor = whole(alloc, &[*c, 1])?;
+        p = p.mul(alloc, &factor)?;
+    }
+    over(alloc, whole(alloc, &[5, 1])?, p)
+}
+
+// Whether x + y - y is x.
+fn adds_and_takes(alloc: Global, p: &[i128], q: &[i128]) -> Result<bool, Stop> {
+    let x = over_product(alloc, p)?;
+    let y = over_product(alloc, q)?;
+    let sum = x.add(alloc, &y)?;
+    let back = sum.sub(alloc, &y)?;
+    back.same(alloc, &x)
+}
+
+#[test]
+fn adds_fractions_of_long_products(rt: HostRuntime) {
+    let cases: [[&[i128]; 2]; 2] = [
+        [&[187, -23, 64, -151, 99], &[186, -24, 63, -152, 98]],
+        [&[187, -23, 64, -151, 99, 3], &[186, -23, 63, -152, 99, 2]],
+    ];
+    for [p, q] in cases {
+        assert!(rt;
+            matches!(adds_and_takes(rt.alloc(), p, q), Ok(true)),
+            "{p:?}"
+        );
+    }
+}
+
+// The constant that a fraction is, and that k / 1 is none.
+fn constants(alloc: Global) -> Result<bool, Stop> {
+    let c = RatFun::from_constant(alloc, Rat::whole(7))?;
+    let k = RatFun::from_poly(alloc, whole(alloc, &[0, 1])?)?;
+    let none = k.constant(alloc)?.is_none();
+    match c.constant(alloc)? {
+        Some(x) => Ok(none && x == Rat::whole(7)),
+        None => Ok(false),
+    }
+}
+
+#[test]
+fn tells_constants(rt: HostRuntime) {
+    assert!(rt; matches!(constants(rt.alloc()), Ok(true)));
+}

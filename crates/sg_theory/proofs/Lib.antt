@@ -18,3 +18,5 @@ pub mod Uniform
 pub mod Rests
 pub mod Specialised
 pub mod Probed
+pub mod Splits
+pub mod Scaling

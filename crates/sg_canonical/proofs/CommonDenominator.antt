@@ -19,7 +19,7 @@ use Rattle.sg_num.proofs.Numbers.{den-positive, number-whole}
 use Rattle.sg_num.specs.Value.{fraction, number}
 use Rattle.sg_num.specs.declared.rat.Rat.{Rat}
 use Rattle.sg_spec.specs.Fraction.{whole}
-use Rattle.sg_spec.specs.Plain.{common_divisor}
+use Rattle.sg_spec.specs.Polynomials.{common_divisor}
 use Rattle.sg_canonical.proofs.Wholes.{whole_value-mul}
 use Rattle.sg_canonical.specs.Whole.{IsCommon, wholes, scaled}
 

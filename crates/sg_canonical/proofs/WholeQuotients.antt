@@ -17,7 +17,7 @@ use Rattle.sg_algebra.proofs.Value.{Value, ◌*ᵛ◌, zero_value, one_value}
 use Rattle.sg_algebra.proofs.ValueField.{ValueR, value_one_ne}
 use Rattle.sg_num.specs.Value.{number}
 use Rattle.sg_num.specs.declared.rat.Rat.{Rat}
-use Rattle.sg_spec.specs.Plain.{common_divisor}
+use Rattle.sg_spec.specs.Polynomials.{common_divisor}
 use Rattle.sg_spec.specs.Canonical.{content, leading, plane_of}
 use Rattle.sg_canonical.specs.Whole.{IsCommon, IsWholeQuotient, wholes, scaled}
 use Rattle.sg_canonical.proofs.CommonDenominator.{divides-all, divisor-denominator, divisor-each, reverse-cons}

@@ -10,7 +10,7 @@ use Rattle.sg_algebra.proofs.Value.{Value, ◌*ᵛ◌, ◌/ᵛ◌}
 use Rattle.sg_algebra.proofs.ValueField.{ValueR}
 use Rattle.sg_num.specs.declared.rat.Rat.{Rat}
 use Rattle.sg_num.specs.Value.{number}
-use Rattle.sg_spec.specs.Plain.{common_divisor}
+use Rattle.sg_spec.specs.Polynomials.{common_divisor}
 use Rattle.sg_spec.specs.Canonical.{content, leading, plane_of}
 
 abbrev pub scaled : ℤ → List (Value 0) → List (Value 0)

@@ -5,7 +5,7 @@ ghost use Rattle.sg_num.specs.Stopped.{IsMemory, KeepsWideStep};
 ghost use Rattle.sg_plain.specs.Linear.{IsSmall};
 ghost use Rattle.sg_plain.specs.Terms.{term};
 ghost use Rattle.sg_spec.specs.Tree.{numeral, add, neg, div};
-ghost use Rattle.sg_spec.specs.Plain.{raised, monomial, joined, with_terms, numerator, leads_below_zero, canonical};
+ghost use Rattle.sg_spec.specs.Polynomials.{variable_power, monomial, with_term, with_terms, numerator, leads_below_zero, canonical};
 
 use crate::whole::{opposite, opposites};
 use sg_expr::Expr;
@@ -62,15 +62,15 @@ fn with_terms(alloc: Global, t: Expr, coefficients: &[i128]) -> Result<Expr, Sto
     match coefficients.split_first() {
         None => Ok(t),
         Some((c, rest)) => {
-            let t = joined(alloc, t, *c, rest.len())?;
+            let t = with_term(alloc, t, *c, rest.len())?;
             with_terms(alloc, t, rest)
         }
     }
 }
 
 // The sum t with one more term.
-fn joined(alloc: Global, t: Expr, c: i128, e: usize) -> Result<Expr, Stop>
-    ensures tree { IfOk result (λ s. tree_of s ≡ joined (tree_of t) c e) }
+fn with_term(alloc: Global, t: Expr, c: i128, e: usize) -> Result<Expr, Stop>
+    ensures tree { IfOk result (λ s. tree_of s ≡ with_term (tree_of t) c e) }
     ensures wide { IfErr result KeepsWideStep }
     ensures narrow { IsSmall c → IfErr result IsMemory }
 {
@@ -116,7 +116,7 @@ fn monomial(alloc: Global, c: i128, e: usize) -> Result<Expr, AllocError>
     if e == 0 {
         return Ok(Expr::Num(c));
     }
-    let power = raised(alloc, e)?;
+    let power = variable_power(alloc, e)?;
     if c == 1 {
         return Ok(power);
     }
@@ -126,8 +126,8 @@ fn monomial(alloc: Global, c: i128, e: usize) -> Result<Expr, AllocError>
 }
 
 // The variable to the power e, as it is written.
-fn raised(alloc: Global, e: usize) -> Result<Expr, AllocError>
-    ensures { IfOk result (λ t. tree_of t ≡ raised e) }
+fn variable_power(alloc: Global, e: usize) -> Result<Expr, AllocError>
+    ensures { IfOk result (λ t. tree_of t ≡ variable_power e) }
 {
     if e == 0 {
         return Ok(Expr::Num(1));

@@ -15,7 +15,7 @@ use Rattle.sg_algebra.specs.Coefficients.{zip_longest, conv}
 use Rattle.sg_spec.specs.Fraction.{whole}
 use Rattle.sg_spec.specs.Tree.{Tree, numeral, here, param, add, neg, mul, div, power, sum_from, prod_from}
 use Rattle.sg_spec.specs.Value.{val, SameValue}
-use Rattle.sg_spec.specs.Plain.{weight}
+use Rattle.sg_spec.specs.Polynomials.{weight}
 
 pub data Role : Type 0 where
   anywhere : Role

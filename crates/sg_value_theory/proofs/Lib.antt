@@ -1,3 +1,4 @@
+pub mod Divisors
 pub mod Evaluation
 pub mod Elements
 pub mod Quotients

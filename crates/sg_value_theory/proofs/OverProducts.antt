@@ -17,7 +17,7 @@ use Rattle.sg_algebra.proofs.ValueField.{ValueR, ValueF, ValueD, value_mul-inv, 
 use Rattle.sg_algebra.proofs.Embedding.{constant_value}
 use Rattle.sg_algebra.proofs.Rational.{whole_value}
 use Rattle.sg_spec.specs.Tree.{Tree, numeral, here, param, add, neg, mul, div, power, sum_from, prod_from}
-use Rattle.sg_spec.specs.Generators.{IsPolynomial, IsDivisor}
+use Rattle.sg_value_theory.proofs.Divisors.{IsPolynomial, IsDivisor}
 use Rattle.sg_tower_theory.specs.Powers.{power as power_of}
 use Rattle.sg_tower_theory.proofs.Difference.{Difference}
 use Rattle.sg_tower_theory.proofs.Formal.{Formal, Element, elements, shifted, factors, lifted, repaired}

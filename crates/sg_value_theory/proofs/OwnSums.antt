@@ -10,7 +10,7 @@ use Rattle.std.proofs.lemmas.Bool.{eqb-true}
 use Rattle.std.proofs.lemmas.List.Elements.{Contains-append_left, Contains-append_right, Contains-append_cases, Contains-push, Contains-push_cases}
 use Rattle.sg_spec.specs.Tree.{Tree, numeral, here, param, add, neg, mul, div, power, sum_from, prod_from}
 use Rattle.sg_spec.specs.Value.{val, total, SameValue}
-use Rattle.sg_spec.specs.Generators.{same_whole, same_tree, has_tree, joined, distinct, concatenated, sums, all_sums, Over}
+use Rattle.sg_spec.specs.Generators.{same_whole, same_tree, has_tree, with_new, distinct, concatenated, sums, all_sums, Over}
 use Rattle.sg_spec.specs.Telescoping.{Tele}
 use Rattle.sg_value_theory.proofs.Converse.{closed_tele}
 
@@ -146,19 +146,19 @@ has_contains t (u ∷ us) e = go (same_tree t u) refl e (has_contains t us)
     go true s e again = subst (λ (z : Tree). Contains (u ∷ us) z) (sym (tree_same t u s)) (Contains-append_left (u ∷ []) us u (Contains-push [] u))
     go false s e again = Contains-append_right (u ∷ []) us t (again e)
 
-joined_known : (known ts : List Tree) (t : Tree) → Contains known t → Contains (joined known ts) t
+joined_known : (known ts : List Tree) (t : Tree) → Contains known t → Contains (with_new known ts) t
 joined_known known [] t c = c
 joined_known known (u ∷ ts) t c = go (has_tree u known) (λ k d. joined_known k ts t d)
   where
-    go : (b : Bool) → ((k : List Tree) → Contains k t → Contains (joined k ts) t) → Contains (joined (cond b known (known ++ (u ∷ []))) ts) t
+    go : (b : Bool) → ((k : List Tree) → Contains k t → Contains (with_new k ts) t) → Contains (with_new (cond b known (known ++ (u ∷ []))) ts) t
     go true again = again known c
     go false again = again (known ++ (u ∷ [])) (Contains-append_left known (u ∷ []) t c)
 
-joined_has : (known ts : List Tree) (t : Tree) → Contains ts t → Contains (joined known ts) t
+joined_has : (known ts : List Tree) (t : Tree) → Contains ts t → Contains (with_new known ts) t
 joined_has known [] t c = absurd (nothing c)
 joined_has known (u ∷ ts) t c = go (has_tree u known) refl (contains_cons u t ts c) (λ k d. joined_has k ts t d)
   where
-    go : (b : Bool) → has_tree u known ≡ b → (u ≡ t) ⊎ Contains ts t → ((k : List Tree) → Contains ts t → Contains (joined k ts) t) → Contains (joined (cond b known (known ++ (u ∷ []))) ts) t
+    go : (b : Bool) → has_tree u known ≡ b → (u ≡ t) ⊎ Contains ts t → ((k : List Tree) → Contains ts t → Contains (with_new k ts) t) → Contains (with_new (cond b known (known ++ (u ∷ []))) ts) t
     go b e (inr h) again = again (cond b known (known ++ (u ∷ []))) h
     go true e (inl s) again = joined_known known ts t (subst (λ (z : Tree). Contains known z) s (has_contains u known e))
     go false e (inl s) again = joined_known (known ++ (u ∷ [])) ts t (subst (λ (z : Tree). Contains (known ++ (u ∷ [])) z) s (Contains-push known u))

@@ -11,7 +11,8 @@ use Rattle.sg_algebra.specs.Coefficients.{Each}
 use Rattle.sg_algebra.proofs.Value.{Value, zero_value}
 use Rattle.sg_algebra.proofs.Place.{Pairwise}
 use Rattle.sg_spec.specs.Tree.{Tree, numeral, here, param, add, neg, mul, div, power, sum_from, prod_from}
-use Rattle.sg_spec.specs.Generators.{IsDivisor, distinct}
+use Rattle.sg_spec.specs.Generators.{distinct}
+use Rattle.sg_value_theory.proofs.Divisors.{IsDivisor}
 use Rattle.sg_tower_theory.proofs.Difference.{delta}
 use Rattle.sg_tower_theory.proofs.Nested.{NestedR}
 use Rattle.sg_tower_theory.proofs.Formal.{Formal, Element, elements, shifted, base, IsIndependent, own_sum}

@@ -5,13 +5,14 @@
 --   over-element        a tree without products and parameter is built over its sums
 --   over-products       a tree without parameter over its products and sums, with no sum in a divisor
 --   element-printed, element-form      the tree is printed as it is
-use Rattle.std.proofs.Common.{◌≡◌, ℕ, zero, suc, ◌≤◌, ◌==◌, ℤ, pos, negsuc, neg_ℤ, Bool, true, false, cond, ◌&&◌, refl, List, [], ◌∷◌, ◌++◌, map, length, reverse, arith, subst, sym, ap₂}
+use Rattle.std.proofs.Common.{◌≡◌, ℕ, zero, suc, ◌≤◌, ◌==◌, ℤ, pos, negsuc, neg_ℤ, Bool, true, false, IsTrue, cond, ◌&&◌, refl, List, [], ◌∷◌, ◌++◌, map, length, reverse, arith, subst, sym, ap₂}
 use Rattle.std.proofs.lemmas.Int.{ints}
 use Rattle.std.proofs.lemmas.List.{length-map}
 use Rattle.sg_algebra.specs.Coefficients.{Each}
 use Rattle.sg_spec.specs.Tree.{Tree, numeral, here, param, add, neg, mul, div, power, sum_from, prod_from}
-use Rattle.sg_spec.specs.Generators.{same_tree, Over, OverWithProducts, IsPolynomial, IsDivisor}
-use Rattle.sg_spec.specs.Printing.{InForm, is_polynomial_tree, is_divisor_tree}
+use Rattle.sg_spec.specs.Generators.{same_tree, Over, Allowed, BuiltOver}
+use Rattle.sg_spec.specs.Printing.{InForm}
+use Rattle.sg_spec.specs.Shape.{is_polynomial_tree, is_divisor_tree}
 use Rattle.sg_spec.specs.Canonical.{Plane, Signed, times_all, over_all, above, unsigned_tree, with_sign, signed_tree, added, total_tree, turned, raised_factor, monomial, monomial_terms, row_monomials, monomials, polynomial_tree, leads_below, negated, Written, is_one, upper_factor, lower_factor, factors, lower_factors, one_term, of_coefficient, term_of, grouped, first_power, without, before_groups, groups, joined, raised, signed_terms, element_tree}
 
 pub record Builds (P Q D : Tree → Type 0) (N : Type 0) : Type 0 where
@@ -284,39 +285,50 @@ over-builds ss = record {
 pub over-element : (all ss : List Tree) (ts : List Written) → Each (Over all) (reverse ss) → Each (λ t. NoParameter t.upper × NoParameter t.lower) ts → Over all (element_tree [] ss ts)
 over-element all ss ts h i = element-built (Over all) (Over all) (Over all) ⊥ (over-builds all) [] ss ts tt h (all-hold ts i)
 
-polynomial-divides : (ps : List Tree) (t : Tree) → IsPolynomial t → IsDivisor ps t
-polynomial-divides ps (numeral c) h = tt
-polynomial-divides ps here h = tt
-polynomial-divides ps param h = tt
-polynomial-divides ps (add x y) h = h
-polynomial-divides ps (neg x) h = polynomial-divides ps x h
-polynomial-divides ps (mul x y) h = (polynomial-divides ps x h.0, polynomial-divides ps y h.1)
-polynomial-divides ps (div x y) h = h
-polynomial-divides ps (power x e) h = polynomial-divides ps x h
-polynomial-divides ps (sum_from a x) h = h
-polynomial-divides ps (prod_from a x) h = absurd h
+true_both : (a b : Bool) → IsTrue a → IsTrue b → IsTrue (a && b)
+true_both true b h k = k
+true_both false b h k = h
+
+true_through : (a b c e : Bool) → (IsTrue a → IsTrue c) → (IsTrue b → IsTrue e) → IsTrue (a && b) → IsTrue (c && e)
+true_through true b c e f g h = true_both c e (f tt) (g h)
+true_through false b c e f g h = absurd h
+
+polynomial-divides : (t : Tree) → IsTrue (is_polynomial_tree t) → IsTrue (is_divisor_tree t)
+polynomial-divides (numeral c) h = tt
+polynomial-divides here h = tt
+polynomial-divides param h = tt
+polynomial-divides (add x y) h = h
+polynomial-divides (neg x) h = polynomial-divides x h
+polynomial-divides (mul x y) h = true_through (is_polynomial_tree x) (is_polynomial_tree y) (is_divisor_tree x) (is_divisor_tree y) (polynomial-divides x) (polynomial-divides y) h
+polynomial-divides (div x y) h = absurd h
+polynomial-divides (power x e) h = polynomial-divides x h
+polynomial-divides (sum_from a x) h = absurd h
+polynomial-divides (prod_from a x) h = tt
 
 module _ (qs us : List Tree) where
+  abbrev allowed : Allowed
+  allowed = record { parameter = false; products = qs; sums = us }
+
   abbrev Whole : Tree → Type 0
-  Whole t = OverWithProducts qs us t
+  Whole t = BuiltOver allowed t
 
   abbrev WholePolynomial : Tree → Type 0
-  WholePolynomial t = OverWithProducts qs us t × IsPolynomial t
+  WholePolynomial t = BuiltOver allowed t × IsTrue (is_polynomial_tree t)
 
   abbrev WholeDivisor : Tree → Type 0
-  WholeDivisor t = OverWithProducts qs us t × IsDivisor qs t
+  WholeDivisor t = BuiltOver allowed t × IsTrue (is_divisor_tree t)
 
   products-build : Builds Whole WholePolynomial WholeDivisor ⊥
   products-build = record {
     number = λ c. (tt, tt);
     variable = (tt, tt);
     parameter = λ n. absurd n;
-    plain_sum = λ x y h i. ((h.0, i.0), (h.1, i.1));
+    plain_sum = λ x y h i. ((h.0, i.0), true_both (is_polynomial_tree x) (is_polynomial_tree y) h.1 i.1);
     plain_opposite = λ x h. h;
-    plain_product = λ x y h i. ((h.0, i.0), (h.1, i.1));
+    plain_product = λ x y h i. ((h.0, i.0), true_both (is_polynomial_tree x) (is_polynomial_tree y) h.1 i.1);
     plain_power = λ x e h. h;
     plain = λ x h. h.0;
-    divisor = λ x h. (h.0, polynomial-divides qs x h.1);
+    divisor = λ x h. (h.0, polynomial-divides x h.1);
     sum = λ x y h i. (h, i);
     opposite = λ x h. h;
     product = λ x y h i. (h, i);
@@ -328,8 +340,8 @@ module _ (qs us : List Tree) where
   stand [] h = tt
   stand (p ∷ ps) h = ((h.0.0, h.0, λ e. h.0), stand ps h.1)
 
-  pub over-products : (ps ss : List Tree) (ts : List Written) → Each (λ t. OverWithProducts qs us t × IsDivisor qs t) ps → Each (OverWithProducts qs us) (reverse ss)
-      → Each (λ t. NoParameter t.upper × NoParameter t.lower) ts → OverWithProducts qs us (element_tree ps ss ts)
+  pub over-products : (ps ss : List Tree) (ts : List Written) → Each (λ t. BuiltOver allowed t × IsTrue (is_divisor_tree t)) ps → Each (BuiltOver allowed) (reverse ss)
+      → Each (λ t. NoParameter t.upper × NoParameter t.lower) ts → BuiltOver allowed (element_tree ps ss ts)
   over-products ps ss ts a h i = element-built Whole WholePolynomial WholeDivisor ⊥ products-build ps ss ts (stand ps a) h (all-hold ts i)
 
 -- ---- How it is printed

@@ -4,7 +4,7 @@
 use Rattle.std.proofs.Common.{◌≡◌, ℕ, zero, suc, ◌==◌, ℤ, pos, negsuc, neg_ℤ, Bool, true, false, cond, refl, sym, ap, ◌∙◌, List, [], ◌∷◌, ◌++◌, length, map}
 use Rattle.std.proofs.lemmas.List.{length-map}
 use Rattle.sg_spec.specs.Tree.{Tree, numeral, neg, div, mul, here, power}
-use Rattle.sg_spec.specs.Plain.{numerator, with_terms, leads_below_zero, canonical, monomial as plain_monomial}
+use Rattle.sg_spec.specs.Polynomials.{numerator, with_terms, leads_below_zero, canonical, monomial as plain_monomial}
 use Rattle.sg_spec.specs.Canonical.{Signed, Written, monomial, monomials, added, total_tree, polynomial_tree, leads_below, negated, of_coefficient, with_sign, element_tree, plane_of}
 
 pub plane-opposite : (cs : List ℤ) → plane_of (map neg_ℤ cs) ≡ negated (plane_of cs)

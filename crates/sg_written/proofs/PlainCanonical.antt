@@ -10,7 +10,7 @@ use Rattle.sg_algebra.proofs.Rational.{whole_value, nat_ne}
 use Rattle.sg_algebra.proofs.Value.{Value, ◌*ᵛ◌, inv_value, zero_value, one_value}
 use Rattle.sg_algebra.proofs.ValueField.{value_mul-inv}
 use Rattle.sg_spec.specs.Tree.{Tree}
-use Rattle.sg_spec.specs.Plain.{common_divisor, canonical, IsCanonical}
+use Rattle.sg_spec.specs.Polynomials.{common_divisor, canonical, IsCanonical}
 use Rattle.sg_spec.specs.Canonical.{plane_of, content, IsLowest, IsCanonicalOver}
 use Rattle.sg_written.proofs.OneTerm.{only, one-term}
 use Rattle.sg_written.proofs.Planes.{S, constants, unit-number, entries-is}

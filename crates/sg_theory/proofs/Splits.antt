@@ -122,7 +122,7 @@ module _ (F : Field) where
     split_coprime apart right left rests =
         let z = moved R β (of_roots s ⊗ q) in
         coprime_symm P z (of_roots r ⊗ p) (coprime-mul P z (of_roots r) p
-            (coprime_symm P (of_roots r) z (roots_coprime r z (each_map (λ a. Each (λ b. ¬ (a ⊞ β ≈ b)) s × ¬ (eval R q (a ⊞ β) ≈ O)) (λ a. ¬ (eval R z a ≈ O)) (λ a h. there a h.0 h.1) r
-            (each_both (λ a. Each (λ b. ¬ (a ⊞ β ≈ b)) s) (λ a. ¬ (eval R q (a ⊞ β) ≈ O)) r apart right))))
-            (coprime_symm P p z (coprime_same P p (moved R β (of_roots s) ⊗ moved R β q) p z P.rfl (P.symm ((movedH R β).on-mul (of_roots s) q))
-            (coprime-mul P p (moved R β (of_roots s)) (moved R β q) (rest_roots left) rests))))
+        (coprime_symm P (of_roots r) z (roots_coprime r z (each_map (λ a. Each (λ b. ¬ (a ⊞ β ≈ b)) s × ¬ (eval R q (a ⊞ β) ≈ O)) (λ a. ¬ (eval R z a ≈ O)) (λ a h. there a h.0 h.1) r
+        (each_both (λ a. Each (λ b. ¬ (a ⊞ β ≈ b)) s) (λ a. ¬ (eval R q (a ⊞ β) ≈ O)) r apart right))))
+        (coprime_symm P p z (coprime_same P p (moved R β (of_roots s) ⊗ moved R β q) p z P.rfl (P.symm ((movedH R β).on-mul (of_roots s) q))
+        (coprime-mul P p (moved R β (of_roots s)) (moved R β q) (rest_roots left) rests))))

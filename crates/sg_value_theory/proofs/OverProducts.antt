@@ -166,14 +166,20 @@ module _ {d : ℕ} (letter : Value d) where
     times_one u = ring (ValueR d) (u ∷ []) (search reads depth 12) refl
 
     pub product_over : (g : Tree) → Contains ps g → (x : Element f) × AgreesFrom x g
-    product_over g c = let r = place_in ps g c in (own_product r.0, λ p l i v w.
-        subst (HasElement f p (own_product r.0)) (times_one (units_value p.products (unit_row (length ps) r.0)) ∙ unit-own (length ps) r.0 p.products r.1 ∙ sym (r.2 p.variable p.products v i.0 w))
-        (has-unit f.products f.sums p (unit_row (length ps) r.0) one_value one_value (sized r.0) (one_at p)))
+    product_over g c = let r = place_in ps g c in (
+      own_product r.0,
+      λ p l i v w.
+          subst (HasElement f p (own_product r.0)) (times_one (units_value p.products (unit_row (length ps) r.0)) ∙ unit-own (length ps) r.0 p.products r.1 ∙ sym (r.2 p.variable p.products v i.0 w))
+          (has-unit f.products f.sums p (unit_row (length ps) r.0) one_value one_value (sized r.0) (one_at p)),
+    )
 
     pub inverse_over : (g : Tree) → Contains ps g → (z : Element f) × InvertsFrom z g
-    inverse_over g c = let r = place_in ps g c in (own_inverse r.0, λ p l i v w n.
-        subst (HasElement f p (own_inverse r.0)) (times_one (units_value p.products (map neg_ℤ (unit_row (length ps) r.0))) ∙ unit-inverse (length ps) r.0 p.products r.1 ∙ ap inv_value (sym (r.2 p.variable p.products v i.0 w)))
-        (has-unit f.products f.sums p (map neg_ℤ (unit_row (length ps) r.0)) one_value one_value (negated r.0) (one_at p)))
+    inverse_over g c = let r = place_in ps g c in (
+      own_inverse r.0,
+      λ p l i v w n.
+          subst (HasElement f p (own_inverse r.0)) (times_one (units_value p.products (map neg_ℤ (unit_row (length ps) r.0))) ∙ unit-inverse (length ps) r.0 p.products r.1 ∙ ap inv_value (sym (r.2 p.variable p.products v i.0 w)))
+          (has-unit f.products f.sums p (map neg_ℤ (unit_row (length ps) r.0)) one_value one_value (negated r.0) (one_at p)),
+    )
 
     polynomial_inverts : (y : Tree) → IsPolynomial y → InvertsFrom (lifted f (inv_value (function_of y))) y
     polynomial_inverts y o p l i w h n = lifted-has f p (inv_value (function_of y)) (inv_value w) (inverse-has p.variable (function_of y) w (function-has y o p.variable w h) n)
@@ -183,17 +189,26 @@ module _ {d : ℕ} (letter : Value d) where
     divisor_over here o = (lifted f (inv_value (function_of here)), polynomial_inverts here o)
     divisor_over param o = (lifted f (inv_value (function_of param)), polynomial_inverts param o)
     divisor_over (add x y) o = (lifted f (inv_value (function_of (add x y))), polynomial_inverts (add x y) o)
-    divisor_over (neg x) o = let r = divisor_over x o in (E.⊟ r.0, λ p l i w h n.
-        let m : ¬ (neg_value h.0 ≡ zero_value) = λ z. n (h.2 ∙ z) in
-        subst (HasElement f p (E.⊟ r.0)) (sym (ap inv_value h.2 ∙ inverse_neg h.0 m)) ((evaluation f p).neg_has r.0 (inv_value h.0) (r.1 p l i h.0 h.1 (λ z. m (ap neg_value z ∙ ring (ValueR d) [] (search reads depth 12) refl)))))
-    divisor_over (mul x y) o = let r = divisor_over x o.0 in let q = divisor_over y o.1 in (E.◌⊠◌ r.0 q.0, λ p l i w h n.
-        let m : ¬ (h.0 *ᵛ h.1 ≡ zero_value) = λ z. n (h.4 ∙ z) in
-        subst (HasElement f p (E.◌⊠◌ r.0 q.0)) (sym (ap inv_value h.4 ∙ inverse_mul h.0 h.1 m)) ((evaluation f p).mul_has r.0 q.0 (inv_value h.0) (inv_value h.1) (r.1 p l i h.0 h.2 (left_ne h.0 h.1 m)) (q.1 p l i h.1 h.3 (right_ne h.0 h.1 m))))
+    divisor_over (neg x) o = let r = divisor_over x o in (
+      E.⊟ r.0,
+      λ p l i w h n.
+          let m : ¬ (neg_value h.0 ≡ zero_value) = λ z. n (h.2 ∙ z) in
+          subst (HasElement f p (E.⊟ r.0)) (sym (ap inv_value h.2 ∙ inverse_neg h.0 m)) ((evaluation f p).neg_has r.0 (inv_value h.0) (r.1 p l i h.0 h.1 (λ z. m (ap neg_value z ∙ ring (ValueR d) [] (search reads depth 12) refl)))),
+    )
+    divisor_over (mul x y) o = let r = divisor_over x o.0 in let q = divisor_over y o.1 in (
+      E.◌⊠◌ r.0 q.0,
+      λ p l i w h n.
+          let m : ¬ (h.0 *ᵛ h.1 ≡ zero_value) = λ z. n (h.4 ∙ z) in
+          subst (HasElement f p (E.◌⊠◌ r.0 q.0)) (sym (ap inv_value h.4 ∙ inverse_mul h.0 h.1 m)) ((evaluation f p).mul_has r.0 q.0 (inv_value h.0) (inv_value h.1) (r.1 p l i h.0 h.2 (left_ne h.0 h.1 m)) (q.1 p l i h.1 h.3 (right_ne h.0 h.1 m))),
+    )
     divisor_over (div x y) o = absurd o
     divisor_over (power x zero) o = (E.I, λ p l i w h n. subst (HasElement f p E.I) (sym (ap inv_value h.2 ∙ inverse_one)) (evaluation f p).one_has)
-    divisor_over (power x (suc e)) o = let r = divisor_over x o in (pow E r.0 (suc e), λ p l i w h n.
-        let m : ¬ (pow (ValueR d) h.0 (suc e) ≡ zero_value) = λ z. n (h.2 ∙ z) in
-        subst (HasElement f p (pow E r.0 (suc e))) (sym (ap inv_value h.2 ∙ inverse_pow h.0 (suc e) m)) (pow_has (evaluation f p) r.0 (inv_value h.0) (suc e) (r.1 p l i h.0 h.1 (right_ne (pow (ValueR d) h.0 e) h.0 m))))
+    divisor_over (power x (suc e)) o = let r = divisor_over x o in (
+      pow E r.0 (suc e),
+      λ p l i w h n.
+          let m : ¬ (pow (ValueR d) h.0 (suc e) ≡ zero_value) = λ z. n (h.2 ∙ z) in
+          subst (HasElement f p (pow E r.0 (suc e))) (sym (ap inv_value h.2 ∙ inverse_pow h.0 (suc e) m)) (pow_has (evaluation f p) r.0 (inv_value h.0) (suc e) (r.1 p l i h.0 h.1 (right_ne (pow (ValueR d) h.0 e) h.0 m))),
+    )
     divisor_over (sum_from a b) o = absurd o
     divisor_over (prod_from a b) o = inverse_over (prod_from a b) o
 

@@ -289,63 +289,6 @@ true_both : (a b : Bool) → IsTrue a → IsTrue b → IsTrue (a && b)
 true_both true b h k = k
 true_both false b h k = h
 
-true_through : (a b c e : Bool) → (IsTrue a → IsTrue c) → (IsTrue b → IsTrue e) → IsTrue (a && b) → IsTrue (c && e)
-true_through true b c e f g h = true_both c e (f tt) (g h)
-true_through false b c e f g h = absurd h
-
-polynomial-divides : (t : Tree) → IsTrue (is_polynomial_tree t) → IsTrue (is_divisor_tree t)
-polynomial-divides (numeral c) h = tt
-polynomial-divides here h = tt
-polynomial-divides param h = tt
-polynomial-divides (add x y) h = h
-polynomial-divides (neg x) h = polynomial-divides x h
-polynomial-divides (mul x y) h = true_through (is_polynomial_tree x) (is_polynomial_tree y) (is_divisor_tree x) (is_divisor_tree y) (polynomial-divides x) (polynomial-divides y) h
-polynomial-divides (div x y) h = absurd h
-polynomial-divides (power x e) h = polynomial-divides x h
-polynomial-divides (sum_from a x) h = absurd h
-polynomial-divides (prod_from a x) h = tt
-
-module _ (qs us : List Tree) where
-  abbrev allowed : Allowed
-  allowed = record { parameter = false; products = qs; sums = us }
-
-  abbrev Whole : Tree → Type 0
-  Whole t = BuiltOver allowed t
-
-  abbrev WholePolynomial : Tree → Type 0
-  WholePolynomial t = BuiltOver allowed t × IsTrue (is_polynomial_tree t)
-
-  abbrev WholeDivisor : Tree → Type 0
-  WholeDivisor t = BuiltOver allowed t × IsTrue (is_divisor_tree t)
-
-  products-build : Builds Whole WholePolynomial WholeDivisor ⊥
-  products-build = record {
-    number = λ c. (tt, tt);
-    variable = (tt, tt);
-    parameter = λ n. absurd n;
-    plain_sum = λ x y h i. ((h.0, i.0), true_both (is_polynomial_tree x) (is_polynomial_tree y) h.1 i.1);
-    plain_opposite = λ x h. h;
-    plain_product = λ x y h i. ((h.0, i.0), true_both (is_polynomial_tree x) (is_polynomial_tree y) h.1 i.1);
-    plain_power = λ x e h. h;
-    plain = λ x h. h.0;
-    divisor = λ x h. (h.0, polynomial-divides x h.1);
-    sum = λ x y h i. (h, i);
-    opposite = λ x h. h;
-    product = λ x y h i. (h, i);
-    quotient = λ x y h i. (h, i.0, i.1);
-    raise = λ x e h. h;
-  }
-
-  stand : (ps : List Tree) → Each WholeDivisor ps → Each (MayStand Whole WholePolynomial WholeDivisor ⊥ products-build) ps
-  stand [] h = tt
-  stand (p ∷ ps) h = ((h.0.0, h.0, λ e. h.0), stand ps h.1)
-
-  pub over-products : (ps ss : List Tree) (ts : List Written) → Each (λ t. BuiltOver allowed t × IsTrue (is_divisor_tree t)) ps → Each (BuiltOver allowed) (reverse ss)
-      → Each (λ t. NoParameter t.upper × NoParameter t.lower) ts → BuiltOver allowed (element_tree ps ss ts)
-  over-products ps ss ts a h i = element-built Whole WholePolynomial WholeDivisor ⊥ products-build ps ss ts (stand ps a) h (all-hold ts i)
-
--- ---- How it is printed
-
 polynomial-divisor : (t : Tree) → is_polynomial_tree t ≡ true → is_divisor_tree t ≡ true
 polynomial-divisor (numeral c) h = refl
 polynomial-divisor here h = refl
@@ -362,6 +305,47 @@ polynomial-divisor (div x y) h = cc
 polynomial-divisor (power x e) h = polynomial-divisor x h
 polynomial-divisor (sum_from a x) h = cc
 polynomial-divisor (prod_from a x) h = cc
+
+module _ (qs us : List Tree) where
+  abbrev allowed : Allowed
+  allowed = record { parameter = false; products = qs; sums = us }
+
+  abbrev Whole : Tree → Type 0
+  Whole t = BuiltOver allowed t
+
+  abbrev WholePolynomial : Tree → Type 0
+  WholePolynomial t = BuiltOver allowed t × IsTrue (is_polynomial_tree t)
+
+  abbrev WholeDivisor : Tree → Type 0
+  WholeDivisor t = BuiltOver allowed t × IsTrue (is_divisor_tree t)
+
+  products-build : Builds Whole WholePolynomial WholeDivisor ⊥
+  products-build = record {
+    number = λ c. (tt, refl);
+    variable = (tt, refl);
+    parameter = λ n. absurd n;
+    plain_sum = λ x y h i. ((h.0, i.0), true_both (is_polynomial_tree x) (is_polynomial_tree y) h.1 i.1);
+    plain_opposite = λ x h. h;
+    plain_product = λ x y h i. ((h.0, i.0), true_both (is_polynomial_tree x) (is_polynomial_tree y) h.1 i.1);
+    plain_power = λ x e h. h;
+    plain = λ x h. h.0;
+    divisor = λ x h. (h.0, polynomial-divisor x h.1);
+    sum = λ x y h i. (h, i);
+    opposite = λ x h. h;
+    product = λ x y h i. (h, i);
+    quotient = λ x y h i. (h, i.0, i.1);
+    raise = λ x e h. h;
+  }
+
+  stand : (ps : List Tree) → Each WholeDivisor ps → Each (MayStand Whole WholePolynomial WholeDivisor ⊥ products-build) ps
+  stand [] h = tt
+  stand (p ∷ ps) h = ((h.0.0, h.0, λ e. h.0), stand ps h.1)
+
+  pub over-products : (ps ss : List Tree) (ts : List Written) → Each (λ t. BuiltOver allowed t × IsTrue (is_divisor_tree t)) ps → Each (BuiltOver allowed) (reverse ss)
+      → Each (λ t. NoParameter t.upper × NoParameter t.lower) ts → BuiltOver allowed (element_tree ps ss ts)
+  over-products ps ss ts a h i = element-built Whole WholePolynomial WholeDivisor ⊥ products-build ps ss ts (stand ps a) h (all-hold ts i)
+
+-- ---- How it is printed
 
 module _ (known : Bool) where
   abbrev Printed : Tree → Type 0

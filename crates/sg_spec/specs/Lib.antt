@@ -1,6 +1,7 @@
 pub mod Fraction
 pub mod Width
 pub mod Tree
+pub mod Shape
 pub mod Value
 pub mod Grammar
 pub mod Syntax

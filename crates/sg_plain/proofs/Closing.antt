@@ -79,7 +79,7 @@ module _ (P : Tree → Type 0) (H : Holds P) where
   all-raised : (e : ℕ) → P (variable_power e)
   all-raised zero = H.number 1
   all-raised (suc zero) = H.variable
-  all-raised (suc (suc e)) = H.raised (suc (suc e))
+  all-raised (suc (suc e)) = H.variable_power (suc (suc e))
 
   all-monomial : (c e : ℕ) → P (monomial c e)
   all-monomial c zero = H.number c

@@ -13,7 +13,7 @@ use Rattle.sg_algebra.proofs.ValueField.{ValueR}
 use Rattle.sg_algebra.proofs.Whole.{mul-oneℤ}
 use Rattle.sg_spec.specs.Fraction.{whole}
 use Rattle.sg_spec.specs.Limits.{degrees}
-use Rattle.sg_spec.specs.Plain.{IsPlain, weight}
+use Rattle.sg_spec.specs.Polynomials.{IsPolynomial, weight}
 use Rattle.sg_spec.specs.Tree.{Tree, numeral, here, param, add, neg, mul, div, power, sum_from, prod_from}
 use Rattle.sg_spec.specs.Value.{val}
 use Rattle.sg_values.proofs.Values.{val-proper}
@@ -138,7 +138,7 @@ linear-pow x e c s l r some h value size flat = record {
   flat = λ z. flat (h.flat (none_of-product (degrees x).variable e some z));
 }
 
-pub linear-unexpanded : (x : Tree) (e : ℕ) (l r : ℤ) → IsPlain x → e ≡ 0 → l ≡ pos 1 → r ≡ pos 0 → IsLinear (power x e) l r
+pub linear-unexpanded : (x : Tree) (e : ℕ) (l r : ℤ) → IsPolynomial x → e ≡ 0 → l ≡ pos 1 → r ≡ pos 0 → IsLinear (power x e) l r
 linear-unexpanded x e l r plain he hl hr = subst (λ (n : ℕ). IsLinear (power x n) l r) (sym he) (record { value = value; light = light; flat = λ z. hr })
   where
     constant : (x : Value 0) → one_value ≡ whole_value 0 (pos 1) +ᵛ whole_value 0 (pos 0) *ᵛ x

@@ -1,5 +1,4 @@
 -- Polynomials of degree at most one with whole coefficients of small sizes, whose sums need no step of fractions.
---   IsMemory            a call stopped for want of memory
 --   IsSmall c           the size of c is at most 2^32
 --   linear_size c s     the sizes of the constant c and the slope s together
 --   linear_value c s x  c + s x
@@ -8,18 +7,12 @@
 use Rattle.std.specs.Prelude.{◌≡◌, ℕ, ◌+◌, ◌≤◌, ◌<◌, ℤ, pos, ◌-ℤ◌, unsigned_abs, List}
 use Rattle.sg_algebra.proofs.Rational.{whole_value}
 use Rattle.sg_algebra.proofs.Value.{Value, ◌+ᵛ◌, ◌-ᵛ◌, ◌*ᵛ◌, zero_value, one_value}
-use Rattle.sg_num.specs.declared.step.Stop.{Stop}
-use Rattle.sg_num.specs.declared.step.Stop.TheVariants.{Memory, Wide as WideStep}
 use Rattle.sg_spec.specs.Limits.{degrees}
-use Rattle.sg_spec.specs.Plain.{weight, canonical, common_divisor}
+use Rattle.sg_spec.specs.Polynomials.{weight, canonical, common_divisor}
 use Rattle.sg_spec.specs.Tree.{Tree}
 use Rattle.sg_spec.specs.Value.{val}
 use Rattle.sg_values.proofs.Worth.{Worth}
 use Rattle.sg_plain.specs.Terms.{falling_value}
-
-abbrev pub IsMemory : Stop → Type 0
-IsMemory (Memory e) = Unit {0}
-IsMemory (WideStep w) = ⊥
 
 abbrev pub IsSmall : ℤ → Type 0
 IsSmall c = unsigned_abs c ≤ 4294967296

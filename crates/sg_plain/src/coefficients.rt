@@ -6,7 +6,7 @@ ghost use Rattle.sg_algebra.proofs.ValueField.{ValueR};
 ghost use Rattle.sg_num.specs.Value.{number};
 ghost use Rattle.sg_spec.specs.Tree.{here, numeral};
 ghost use Rattle.sg_spec.specs.Value.{val};
-ghost use Rattle.sg_spec.specs.Plain.{IsPlain};
+ghost use Rattle.sg_spec.specs.Polynomials.{IsPolynomial};
 ghost use Rattle.sg_values.proofs.Worth.{Worth};
 ghost use Rattle.sg_expr.specs.Tree.{tree_of};
 ghost use Rattle.sg_num.specs.Stopped.{KeepsWideStep};
@@ -70,7 +70,7 @@ fn add_all(sum: &mut Vec<Rat>, c: Rat, p: &[Rat]) -> Result<(), Stop>
 // Adds c times a plain polynomial that is none of the simple parts.
 #[inline(never)]
 fn add_other(alloc: Global, sum: &mut Vec<Rat>, c: Rat, e: &Expr) -> Result<(), Stop>
-    requires { IsPlain (tree_of e.now) }
+    requires { IsPolynomial (tree_of e.now) }
     ensures value { OnOk result ((x : Value 0) → value_at sum.new.items x ≡ value_at sum.old.items x +ᵛ number c *ᵛ plain_value (tree_of e.now) x) }
     ensures wide { IfErr result KeepsWideStep }
 {
@@ -81,7 +81,7 @@ fn add_other(alloc: Global, sum: &mut Vec<Rat>, c: Rat, e: &Expr) -> Result<(), 
 // Adds c times a plain polynomial. One of many terms goes far down on the left alone: so left operands are taken in a loop.
 #[cycle(multiples)]
 fn add_multiple(alloc: Global, sum: &mut Vec<Rat>, c: Rat, e: &Expr) -> Result<(), Stop>
-    requires { IsPlain (tree_of e.now) }
+    requires { IsPolynomial (tree_of e.now) }
     ensures value { OnOk result ((x : Value 0) → value_at sum.new.items x ≡ value_at sum.old.items x +ᵛ number c *ᵛ plain_value (tree_of e.now) x) }
     ensures wide { IfErr result KeepsWideStep }
 {
@@ -96,7 +96,7 @@ fn add_multiple(alloc: Global, sum: &mut Vec<Rat>, c: Rat, e: &Expr) -> Result<(
 // Adds c times a plain polynomial, by its parts.
 #[cycle(multiples)]
 fn add_part(alloc: Global, sum: &mut Vec<Rat>, c: Rat, e: &Expr) -> Result<(), Stop>
-    requires { IsPlain (tree_of e.now) }
+    requires { IsPolynomial (tree_of e.now) }
     ensures value { OnOk result ((x : Value 0) → value_at sum.new.items x ≡ value_at sum.old.items x +ᵛ number c *ᵛ plain_value (tree_of e.now) x) }
     ensures wide { IfErr result KeepsWideStep }
 {
@@ -142,7 +142,7 @@ fn number_of(e: &Expr) -> Option<i128>
 
 /// The coefficients of a plain polynomial, the lowest first. Zeros may stand at the end.
 pub fn collected(alloc: Global, e: &Expr) -> Result<Vec<Rat>, Stop>
-    requires { IsPlain (tree_of e.now) }
+    requires { IsPolynomial (tree_of e.now) }
     ensures value { IfOk result (λ p. (k : ℤ) → Worth (val (tree_of e.now) (pos 0) k) (value_at p.items (whole_value 0 k))) }
     ensures wide { IfErr result KeepsWideStep }
 {
@@ -153,7 +153,7 @@ pub fn collected(alloc: Global, e: &Expr) -> Result<Vec<Rat>, Stop>
 
 // The coefficients of a plain polynomial, the lowest first, by sums, products and powers of such lists. Zeros may stand at the end.
 fn coefficients(alloc: Global, e: &Expr) -> Result<Row<Rat>, Stop>
-    requires { IsPlain (tree_of e.now) }
+    requires { IsPolynomial (tree_of e.now) }
     ensures value { IfOk result (λ p. (x : Value 0) → value_at p x ≡ plain_value (tree_of e.now) x) }
     ensures wide { IfErr result KeepsWideStep }
 {

@@ -1,7 +1,7 @@
 ghost use Rattle.std.specs.Prelude.{◌≡◌, ◌*ℤ◌, neg_ℤ, map, IfOk, IfErr};
 ghost use Rattle.sg_algebra.specs.Coefficients.{Each};
-ghost use Rattle.sg_num.specs.Stopped.{KeepsWideStep};
-ghost use Rattle.sg_plain.specs.Linear.{IsMemory, IsSmall};
+ghost use Rattle.sg_num.specs.Stopped.{KeepsWideStep, IsMemory};
+ghost use Rattle.sg_plain.specs.Linear.{IsSmall};
 
 use crate::step::{difference, product};
 use sg_num::{Rat, Row, Stop};

@@ -5,7 +5,7 @@ use Rattle.sg_spec.specs.Fraction.{whole}
 use Rattle.sg_spec.specs.Tree.{Tree, numeral, here, param, neg, add, mul, div, power, sum_from, prod_from}
 use Rattle.sg_spec.specs.Value.{val, total, SameValue}
 use Rattle.sg_spec.specs.Limits.{counted, too_steep}
-use Rattle.sg_spec.specs.Plain.{canonical}
+use Rattle.sg_spec.specs.Polynomials.{canonical}
 use Rattle.sg_spec.specs.Generators.{sums, start, BuiltOver}
 
 -- the tree of H(k)

@@ -59,12 +59,12 @@ has_tree t [] = false
 has_tree t (u ∷ us) = cond (same_tree t u) true (has_tree t us)
 
 -- those of the second list that stand neither in the first nor before, after the first
-abbrev pub joined : List Tree → List Tree → List Tree
-joined known [] = known
-joined known (t ∷ ts) = joined (cond (has_tree t known) known (known ++ (t ∷ []))) ts
+abbrev pub with_new : List Tree → List Tree → List Tree
+with_new known [] = known
+with_new known (t ∷ ts) = with_new (cond (has_tree t known) known (known ++ (t ∷ []))) ts
 
 abbrev pub distinct : List Tree → List Tree
-distinct ts = joined [] ts
+distinct ts = with_new [] ts
 
 abbrev pub concatenated : (Tree → List Tree) → List Tree → List Tree
 concatenated f [] = []

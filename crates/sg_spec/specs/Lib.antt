@@ -9,7 +9,7 @@ pub mod Reading
 pub mod Generators
 pub mod Closed
 pub mod Limits
-pub mod Plain
+pub mod Polynomials
 pub mod Parameter
 pub mod Steps
 pub mod Printing

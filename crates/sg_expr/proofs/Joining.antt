@@ -4,11 +4,11 @@
 use Rattle.std.proofs.Common.{◌≡◌, refl, ap, ◌∙◌, Bool, true, false, cond, List, [], ◌∷◌, ◌++◌, ◌||◌, map}
 use Rattle.std.specs.List.{list_any}
 use Rattle.sg_spec.specs.Tree.{Tree}
-use Rattle.sg_spec.specs.Generators.{joined, has_tree, same_tree}
+use Rattle.sg_spec.specs.Generators.{with_new, has_tree, same_tree}
 use Rattle.sg_expr.specs.declared.tree.Expr.{Expr}
 use Rattle.sg_expr.specs.Tree.{tree_of}
 
-pub joined_append : (known ts us : List Tree) → joined known (ts ++ us) ≡ joined (joined known ts) us
+pub joined_append : (known ts us : List Tree) → with_new known (ts ++ us) ≡ with_new (with_new known ts) us
 joined_append known [] us = refl
 joined_append known (t ∷ ts) us = joined_append (cond (has_tree t known) known (known ++ (t ∷ []))) ts us
 

@@ -1,6 +1,6 @@
 ghost use Rattle.std.specs.Prelude.{◌≡◌, [], ◌∷◌, IfOk, IfErr, alloc_error, map};
 ghost use Rattle.std.specs.List.{list_any};
-ghost use Rattle.sg_spec.specs.Generators.{sums, prods, joined, all_sums, all_prods, same_tree};
+ghost use Rattle.sg_spec.specs.Generators.{sums, prods, with_new, all_sums, all_prods, same_tree};
 ghost use Rattle.sg_expr.specs.Tree.{tree_of};
 
 use crate::Expr;
@@ -30,7 +30,7 @@ impl Expr {
     /// The known list, and after it the distinct sums that don't stand in it. It fails only when out of memory.
     #[tactic(auto, using(crate::proofs::Joining::joined_append))]
     pub fn join_sums(&self, alloc: Global, known: Row<Expr>) -> Result<Row<Expr>, AllocError>
-        ensures { IfOk result (λ list. map tree_of list ≡ joined (map tree_of known) (all_sums (tree_of self.now))) }
+        ensures { IfOk result (λ list. map tree_of list ≡ with_new (map tree_of known) (all_sums (tree_of self.now))) }
     {
         match self {
             Expr::Num(_) | Expr::Here | Expr::Param => Ok(known),
@@ -50,7 +50,7 @@ impl Expr {
     /// The known list, and after it the distinct products that don't stand in it. It fails only when out of memory.
     #[tactic(auto, using(crate::proofs::Joining::joined_append))]
     pub fn join_prods(&self, alloc: Global, known: Row<Expr>) -> Result<Row<Expr>, AllocError>
-        ensures { IfOk result (λ list. map tree_of list ≡ joined (map tree_of known) (all_prods (tree_of self.now))) }
+        ensures { IfOk result (λ list. map tree_of list ≡ with_new (map tree_of known) (all_prods (tree_of self.now))) }
     {
         match self {
             Expr::Num(_) | Expr::Here | Expr::Param => Ok(known),
@@ -69,7 +69,7 @@ impl Expr {
 
     /// The known list, and this expression after it where it doesn't stand in it.
     fn join(&self, alloc: Global, known: Row<Expr>) -> Result<Row<Expr>, AllocError>
-        ensures { IfOk result (λ list. map tree_of list ≡ joined (map tree_of known) (tree_of self.now ∷ [])) }
+        ensures { IfOk result (λ list. map tree_of list ≡ with_new (map tree_of known) (tree_of self.now ∷ [])) }
     {
         if self.stands_in(&known) {
             return Ok(known);

@@ -6,7 +6,7 @@
 use Rattle.std.proofs.Common.{◌≡◌, refl, sym, ap, ◌∙◌, ℕ, ◌+◌, ◌<◌, ◌≤◌, Bool, true, false, cond, ◌&&◌, List, [], ◌∷◌, ◌++◌, length, map, drop, get_or, Some, None}
 use Rattle.std.proofs.lemmas.List.{at_drop_more, at_drop_all}
 use Rattle.sg_spec.specs.Tree.{Tree}
-use Rattle.sg_spec.specs.Generators.{joined, concatenated}
+use Rattle.sg_spec.specs.Generators.{with_new, concatenated}
 use Rattle.sg_spec.specs.Limits.{first_from, all_keep}
 use Rattle.sg_expr.specs.declared.tree.Expr.{Expr}
 use Rattle.sg_expr.specs.Tree.{tree_of}
@@ -25,11 +25,11 @@ first-passed test n es i e h is kept = at (first_from n test) es i e h is ∙ ap
 pub first-none : (test : Tree → Bool) (n : ℕ) (es : List Expr) (i : ℕ) → length es ≤ i → first_from n test (map tree_of (drop i es)) ≡ None
 first-none test n es i h = at_drop_all (λ xs. first_from n test (map tree_of xs)) es i h
 
-pub joined-more : (f : Tree → List Tree) (known : List Tree) (es : List Expr) (i : ℕ) (e : Expr) → i < length es → e ≡ get_or es i e → joined known (concatenated f (map tree_of (drop i es))) ≡ joined (joined known (f (tree_of e))) (concatenated f (map tree_of (drop (i + 1) es)))
-joined-more f known es i e h is = at (λ ts. joined known (concatenated f ts)) es i e h is ∙ joined_append known (f (tree_of e)) (concatenated f (map tree_of (drop (i + 1) es)))
+pub joined-more : (f : Tree → List Tree) (known : List Tree) (es : List Expr) (i : ℕ) (e : Expr) → i < length es → e ≡ get_or es i e → with_new known (concatenated f (map tree_of (drop i es))) ≡ with_new (with_new known (f (tree_of e))) (concatenated f (map tree_of (drop (i + 1) es)))
+joined-more f known es i e h is = at (λ ts. with_new known (concatenated f ts)) es i e h is ∙ joined_append known (f (tree_of e)) (concatenated f (map tree_of (drop (i + 1) es)))
 
-pub joined-all : (f : Tree → List Tree) (known : List Tree) (es : List Expr) (i : ℕ) → length es ≤ i → joined known (concatenated f (map tree_of (drop i es))) ≡ known
-joined-all f known es i h = at_drop_all (λ xs. joined known (concatenated f (map tree_of xs))) es i h
+pub joined-all : (f : Tree → List Tree) (known : List Tree) (es : List Expr) (i : ℕ) → length es ≤ i → with_new known (concatenated f (map tree_of (drop i es))) ≡ known
+joined-all f known es i h = at_drop_all (λ xs. with_new known (concatenated f (map tree_of xs))) es i h
 
 pub keep-found : (test : Tree → Bool) (es : List Expr) (i : ℕ) (e : Expr) → i < length es → e ≡ get_or es i e → test (tree_of e) ≡ false → all_keep test (map tree_of (drop i es)) ≡ false
 keep-found test es i e h is refused = at (all_keep test) es i e h is ∙ ap (λ b. b && all_keep test (map tree_of (drop (i + 1) es))) refused

@@ -9,7 +9,7 @@ use Rattle.sg_algebra.proofs.Solver.{ring, reads}
 use Rattle.sg_algebra.proofs.Value.{Value, ◌+ᵛ◌, ◌*ᵛ◌, ◌/ᵛ◌, neg_value, inv_value, zero_value, one_value}
 use Rattle.sg_algebra.proofs.ValueField.{ValueR, value_quotient}
 use Rattle.sg_spec.specs.Fraction.{Fraction, whole}
-use Rattle.sg_spec.specs.Plain.{raised, monomial, joined, with_terms, numerator, leads_below_zero, canonical}
+use Rattle.sg_spec.specs.Polynomials.{variable_power, monomial, with_term, with_terms, numerator, leads_below_zero, canonical}
 use Rattle.sg_spec.specs.Tree.{Tree, numeral, neg, mul, div}
 use Rattle.sg_spec.specs.Value.{val, both, quotient_of}
 use Rattle.sg_values.proofs.Values.{val-proper, IsProper}
@@ -21,7 +21,7 @@ use Rattle.sg_plain.specs.Terms.{term, falling_value}
 
 -- ---- Values
 
-worth-raised : (e : ℕ) (k : ℤ) → Worth (val (raised e) (pos 0) k) (pow (ValueR 0) (whole_value 0 k) e)
+worth-raised : (e : ℕ) (k : ℤ) → Worth (val (variable_power e) (pos 0) k) (pow (ValueR 0) (whole_value 0 k) e)
 worth-raised zero k = worth_cong (Some (whole (pos 1))) (whole_value 0 (pos 1)) one_value (ring (ValueR 0) [] (search reads depth 16) refl) (worth-whole (pos 1))
 worth-raised (suc zero) k = worth_cong (Some (whole k)) (whole_value 0 k) (pow (ValueR 0) (whole_value 0 k) 1) (ring (ValueR 0) (whole_value 0 k ∷ []) (search reads depth 16) refl) (worth-whole k)
 worth-raised (suc (suc e)) k = worth-power (Some (whole k)) (whole_value 0 k) (suc (suc e)) (omega arith) (worth-whole k)
@@ -30,14 +30,14 @@ worth-monomial : (c e : ℕ) (k : ℤ) → Worth (val (monomial c e) (pos 0) k) 
 worth-monomial c zero k = worth_cong (Some (whole (pos c))) (whole_value 0 (pos c)) (whole_value 0 (pos c) *ᵛ one_value) (ring (ValueR 0) (whole_value 0 (pos c) ∷ []) (search reads depth 16) refl) (worth-whole (pos c))
 worth-monomial c (suc e) k = cases (c == 1) refl
   where
-    cases : (b : Bool) → (c == 1) ≡ b → Worth (val (cond b (raised (suc e)) (mul (numeral (pos c)) (raised (suc e)))) (pos 0) k) (whole_value 0 (pos c) *ᵛ pow (ValueR 0) (whole_value 0 k) (suc e))
+    cases : (b : Bool) → (c == 1) ≡ b → Worth (val (cond b (variable_power (suc e)) (mul (numeral (pos c)) (variable_power (suc e)))) (pos 0) k) (whole_value 0 (pos c) *ᵛ pow (ValueR 0) (whole_value 0 k) (suc e))
     cases true q =
-        worth_cong (val (raised (suc e)) (pos 0) k) (pow (ValueR 0) (whole_value 0 k) (suc e)) (whole_value 0 (pos c) *ᵛ pow (ValueR 0) (whole_value 0 k) (suc e))
+        worth_cong (val (variable_power (suc e)) (pos 0) k) (pow (ValueR 0) (whole_value 0 k) (suc e)) (whole_value 0 (pos c) *ᵛ pow (ValueR 0) (whole_value 0 k) (suc e))
         (ring (ValueR 0) (pow (ValueR 0) (whole_value 0 k) (suc e) ∷ []) (search reads depth 16) refl
         ∙ ap (λ (n : ℕ). whole_value 0 (pos n) *ᵛ pow (ValueR 0) (whole_value 0 k) (suc e)) (sym (eqb-true c 1 q)))
         (worth-raised (suc e) k)
     cases false q =
-        worth-product (Some (whole (pos c))) (val (raised (suc e)) (pos 0) k) (whole_value 0 (pos c)) (pow (ValueR 0) (whole_value 0 k) (suc e)) (omega arith) (val-proper (raised (suc e)) (pos 0) k)
+        worth-product (Some (whole (pos c))) (val (variable_power (suc e)) (pos 0) k) (whole_value 0 (pos c)) (pow (ValueR 0) (whole_value 0 k) (suc e)) (omega arith) (val-proper (variable_power (suc e)) (pos 0) k)
         (worth-whole (pos c)) (worth-raised (suc e) k)
 
 negative : (c : ℕ) (p : Value 0) → neg_value (whole_value 0 (pos (suc c)) *ᵛ p) ≡ whole_value 0 (negsuc c) *ᵛ p
@@ -53,7 +53,7 @@ worth-term (negsuc c) e k =
 no-term : (v p : Value 0) → v ≡ v +ᵛ zero_value *ᵛ p
 no-term v p = ring (ValueR 0) (v ∷ p ∷ []) (search reads depth 16) refl
 
-worth-joined : (t : Tree) (v : Value 0) (c : ℤ) (e : ℕ) (k : ℤ) → Worth (val t (pos 0) k) v → Worth (val (joined t c e) (pos 0) k) (v +ᵛ whole_value 0 c *ᵛ pow (ValueR 0) (whole_value 0 k) e)
+worth-joined : (t : Tree) (v : Value 0) (c : ℤ) (e : ℕ) (k : ℤ) → Worth (val t (pos 0) k) v → Worth (val (with_term t c e) (pos 0) k) (v +ᵛ whole_value 0 c *ᵛ pow (ValueR 0) (whole_value 0 k) e)
 worth-joined t v (pos zero) e k h = worth_cong (val t (pos 0) k) v (v +ᵛ zero_value *ᵛ pow (ValueR 0) (whole_value 0 k) e) (no-term v (pow (ValueR 0) (whole_value 0 k) e)) h
 worth-joined t v (pos (suc c)) e k h =
     worth-sum (val t (pos 0) k) (val (term (pos (suc c)) e) (pos 0) k) v (whole_value 0 (pos (suc c)) *ᵛ pow (ValueR 0) (whole_value 0 k) e)
@@ -65,10 +65,10 @@ worth-joined t v (negsuc c) e k h =
 worth-terms : (t : Tree) (v : Value 0) (cs : List ℤ) (k : ℤ) → Worth (val t (pos 0) k) v → Worth (val (with_terms t cs) (pos 0) k) (v +ᵛ falling_value cs (whole_value 0 k))
 worth-terms t v [] k h = worth_cong (val t (pos 0) k) v (v +ᵛ zero_value) (ring (ValueR 0) (v ∷ []) (search reads depth 16) refl) h
 worth-terms t v (c ∷ cs) k h =
-    worth_cong (val (with_terms (joined t c (length cs)) cs) (pos 0) k) ((v +ᵛ whole_value 0 c *ᵛ pow (ValueR 0) (whole_value 0 k) (length cs)) +ᵛ falling_value cs (whole_value 0 k))
+    worth_cong (val (with_terms (with_term t c (length cs)) cs) (pos 0) k) ((v +ᵛ whole_value 0 c *ᵛ pow (ValueR 0) (whole_value 0 k) (length cs)) +ᵛ falling_value cs (whole_value 0 k))
     (v +ᵛ (whole_value 0 c *ᵛ pow (ValueR 0) (whole_value 0 k) (length cs) +ᵛ falling_value cs (whole_value 0 k)))
     (grouped v (whole_value 0 c *ᵛ pow (ValueR 0) (whole_value 0 k) (length cs)) (falling_value cs (whole_value 0 k)))
-    (worth-terms (joined t c (length cs)) (v +ᵛ whole_value 0 c *ᵛ pow (ValueR 0) (whole_value 0 k) (length cs)) cs k (worth-joined t v c (length cs) k h))
+    (worth-terms (with_term t c (length cs)) (v +ᵛ whole_value 0 c *ᵛ pow (ValueR 0) (whole_value 0 k) (length cs)) cs k (worth-joined t v c (length cs) k h))
   where
     grouped : (v p f : Value 0) → (v +ᵛ p) +ᵛ f ≡ v +ᵛ (p +ᵛ f)
     grouped v p f = ring (ValueR 0) (v ∷ p ∷ f ∷ []) (search reads depth 16) refl

@@ -10,7 +10,7 @@ use Rattle.sg_algebra.proofs.ValueField.{value_quotient, value_mul_comm}
 use Rattle.sg_num.specs.declared.rat.Rat.{Rat}
 use Rattle.sg_spec.specs.Closed.{Closed, IsOverOwn}
 use Rattle.sg_spec.specs.Generators.{Over, all_sums, all_prods, sums, prods, distinct, start_of}
-use Rattle.sg_spec.specs.Plain.{IsPlain, raised, monomial, joined, with_terms, numerator, leads_below_zero, canonical}
+use Rattle.sg_spec.specs.Polynomials.{IsPolynomial, variable_power, monomial, with_term, with_terms, numerator, leads_below_zero, canonical}
 use Rattle.sg_spec.specs.Printing.{InForm}
 use Rattle.sg_spec.specs.Tree.{Tree, numeral, here, param, add, neg, mul, div, power, sum_from, prod_from}
 use Rattle.sg_spec.specs.Value.{val}
@@ -22,7 +22,7 @@ use Rattle.sg_plain.specs.Terms.{falling_value}
 
 -- ---- The summand
 
-pub plain-all_sums : (t : Tree) → IsPlain t → all_sums t ≡ []
+pub plain-all_sums : (t : Tree) → IsPolynomial t → all_sums t ≡ []
 plain-all_sums (numeral c) h = refl
 plain-all_sums here h = refl
 plain-all_sums param h = absurd h
@@ -34,7 +34,7 @@ plain-all_sums (power x e) h = plain-all_sums x h
 plain-all_sums (sum_from from body) h = absurd h
 plain-all_sums (prod_from from body) h = absurd h
 
-pub plain-all_prods : (t : Tree) → IsPlain t → all_prods t ≡ []
+pub plain-all_prods : (t : Tree) → IsPolynomial t → all_prods t ≡ []
 plain-all_prods (numeral c) h = refl
 plain-all_prods here h = refl
 plain-all_prods param h = absurd h
@@ -46,7 +46,7 @@ plain-all_prods (power x e) h = plain-all_prods x h
 plain-all_prods (sum_from from body) h = absurd h
 plain-all_prods (prod_from from body) h = absurd h
 
-pub plain-start : (t : Tree) (a : ℤ) → IsPlain t → start_of t a ≡ a
+pub plain-start : (t : Tree) (a : ℤ) → IsPolynomial t → start_of t a ≡ a
 plain-start (numeral c) a h = refl
 plain-start here a h = refl
 plain-start param a h = refl
@@ -58,10 +58,10 @@ plain-start (power x e) a h = plain-start x a h
 plain-start (sum_from from body) a h = absurd h
 plain-start (prod_from from body) a h = absurd h
 
-pub plain-sums : (t : Tree) → IsPlain t → sums (t ∷ []) ≡ []
+pub plain-sums : (t : Tree) → IsPolynomial t → sums (t ∷ []) ≡ []
 plain-sums t h = ap (λ (l : List Tree). distinct (l ++ [])) (plain-all_sums t h)
 
-pub plain-prods : (t : Tree) → IsPlain t → prods (t ∷ []) ≡ []
+pub plain-prods : (t : Tree) → IsPolynomial t → prods (t ∷ []) ≡ []
 plain-prods t h = ap (λ (l : List Tree). distinct (l ++ [])) (plain-all_prods t h)
 
 -- ---- A property that all trees of polynomials have
@@ -73,30 +73,30 @@ record Holds (P : Tree → Type 0) : Type 0 where
   opposite : (t : Tree) → P t → P (neg t)
   product : (s t : Tree) → P s → P t → P (mul s t)
   over : (t : Tree) (d : ℕ) → P t → P (div t (numeral (pos d)))
-  raised : (e : ℕ) → P (power here e)
+  variable_power : (e : ℕ) → P (power here e)
 
 module _ (P : Tree → Type 0) (H : Holds P) where
-  all-raised : (e : ℕ) → P (raised e)
+  all-raised : (e : ℕ) → P (variable_power e)
   all-raised zero = H.number 1
   all-raised (suc zero) = H.variable
-  all-raised (suc (suc e)) = H.raised (suc (suc e))
+  all-raised (suc (suc e)) = H.variable_power (suc (suc e))
 
   all-monomial : (c e : ℕ) → P (monomial c e)
   all-monomial c zero = H.number c
   all-monomial c (suc e) = cases (c == 1)
     where
-      cases : (b : Bool) → P (cond b (raised (suc e)) (mul (numeral (pos c)) (raised (suc e))))
+      cases : (b : Bool) → P (cond b (variable_power (suc e)) (mul (numeral (pos c)) (variable_power (suc e))))
       cases true = all-raised (suc e)
-      cases false = H.product (numeral (pos c)) (raised (suc e)) (H.number c) (all-raised (suc e))
+      cases false = H.product (numeral (pos c)) (variable_power (suc e)) (H.number c) (all-raised (suc e))
 
-  all-joined : (t : Tree) (c : ℤ) (e : ℕ) → P t → P (joined t c e)
+  all-joined : (t : Tree) (c : ℤ) (e : ℕ) → P t → P (with_term t c e)
   all-joined t (pos zero) e h = h
   all-joined t (pos (suc c)) e h = H.sum t (monomial (suc c) e) h (all-monomial (suc c) e)
   all-joined t (negsuc c) e h = H.sum t (neg (monomial (suc c) e)) h (H.opposite (monomial (suc c) e) (all-monomial (suc c) e))
 
   all-terms : (t : Tree) (cs : List ℤ) → P t → P (with_terms t cs)
   all-terms t [] h = h
-  all-terms t (c ∷ cs) h = all-terms (joined t c (length cs)) cs (all-joined t c (length cs) h)
+  all-terms t (c ∷ cs) h = all-terms (with_term t c (length cs)) cs (all-joined t c (length cs) h)
 
   all-numerator : (cs : List ℤ) → P (numerator cs)
   all-numerator [] = H.number 0
@@ -120,7 +120,7 @@ over-holds = record {
   opposite = λ t h. h;
   product = λ s t h k. (h, k);
   over = λ t d h. (h, tt);
-  raised = λ e. tt;
+  variable_power = λ e. tt;
 }
 
 form-holds : Holds (InForm false false)
@@ -131,7 +131,7 @@ form-holds = record {
   opposite = λ t h. h;
   product = λ s t h k. (h, k);
   over = λ t d h. (h, omega (arith, ints), refl);
-  raised = λ e. tt;
+  variable_power = λ e. tt;
 }
 
 pub over-canonical : (cs : List ℤ) (d : ℕ) → Over [] (canonical cs d)
@@ -155,7 +155,7 @@ worth-common q cs d k h =
     (value_mul_comm 0 (value_at q (whole_value 0 k)) (whole_value 0 (pos (unsigned_abs d))) ∙ ap (λ (z : ℤ). whole_value 0 z *ᵛ value_at q (whole_value 0 k)) (size-is d h.positive) ∙ sym (h.value (whole_value 0 k)))))
     (worth-canonical cs (unsigned_abs d) k (positive-size d h.positive))
 
-pub closed-canonical : (f h : Tree) (p q lent-p lent-q : List Rat) (cs lent-cs : List ℤ) (d a : ℤ) → IsPlain f → ((k : ℤ) → Worth (val f (pos 0) k) (value_at p (whole_value 0 k)))
+pub closed-canonical : (f h : Tree) (p q lent-p lent-q : List Rat) (cs lent-cs : List ℤ) (d a : ℤ) → IsPolynomial f → ((k : ℤ) → Worth (val f (pos 0) k) (value_at p (whole_value 0 k)))
     → lent-p ≡ p → ((x : Value 0) → value_at q x ≡ value_at q (x -ᵛ one_value) +ᵛ value_at lent-p x) → value_at q (whole_value 0 (a -ℤ pos 1)) ≡ zero_value
     → lent-q ≡ q → IsCommon lent-q cs d → lent-cs ≡ cs → h ≡ canonical lent-cs (unsigned_abs d) → Closed f [] a h a
 closed-canonical f h p q lent-p lent-q cs lent-cs d a plain worth lp step first lq common lcs is =

@@ -16,7 +16,7 @@ use Rattle.sg_algebra.proofs.Value.{Value, ◌+ᵛ◌, ◌-ᵛ◌, ◌*ᵛ◌, �
 use Rattle.sg_algebra.proofs.ValueField.{ValueR, value_quotient, value_product}
 use Rattle.sg_spec.specs.Closed.{Closed, IsOverOwn}
 use Rattle.sg_spec.specs.Generators.{prods}
-use Rattle.sg_spec.specs.Plain.{IsPlain, canonical, common_divisor}
+use Rattle.sg_spec.specs.Polynomials.{IsPolynomial, canonical, common_divisor}
 use Rattle.sg_spec.specs.Printing.{InForm}
 use Rattle.sg_spec.specs.Tree.{Tree}
 use Rattle.sg_values.proofs.Worth.{total_worth, whole_value-before}
@@ -123,7 +123,7 @@ over-step f g e d ne h = sym (value_quotient f d (g /ᵛ d +ᵛ e) ne (regroup (
 none-over : (f i : Value 0) → f ≡ zero_value → f *ᵛ i ≡ zero_value
 none-over f i h = ap (λ v. v *ᵛ i) h ∙ ring (ValueR 0) (i ∷ []) (search reads depth 16) refl
 
-pub closed-linear : (f t : Tree) (c s a : ℤ) → IsPlain f → IsLinear f c s → IsSummed c s a t → Closed f [] a t a
+pub closed-linear : (f t : Tree) (c s a : ℤ) → IsPolynomial f → IsLinear f c s → IsSummed c s a t → Closed f [] a t a
 closed-linear f t c s a plain lin sum =
     subst (λ (h : Tree). Closed f [] a h a) (sym sum.form) (record {
       starts = sym (plain-start f a plain);

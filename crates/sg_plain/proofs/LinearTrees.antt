@@ -13,7 +13,7 @@ use Rattle.sg_algebra.proofs.ValueField.{ValueR}
 use Rattle.sg_algebra.proofs.Whole.{mul-oneℤ}
 use Rattle.sg_spec.specs.Fraction.{whole}
 use Rattle.sg_spec.specs.Limits.{degrees}
-use Rattle.sg_spec.specs.Plain.{IsPlain, weight}
+use Rattle.sg_spec.specs.Polynomials.{IsPolynomial, weight}
 use Rattle.sg_spec.specs.Tree.{Tree, numeral, here, param, add, neg, mul, div, power, sum_from, prod_from}
 use Rattle.sg_spec.specs.Value.{val}
 use Rattle.sg_values.proofs.Values.{val-proper}
@@ -71,14 +71,14 @@ linear-here c s hc hs = record {
 pub linear-add : (x y : Tree) (c s b t l r : ℤ) → IsLinear x c s → IsLinear y b t → l ≡ c +ℤ b → r ≡ s +ℤ t → IsLinear (add x y) l r
 linear-add x y c s b t l r h k hl hr = record {
   value = λ n. worth_cong (val (add x y) (pos 0) n) (linear_value c s (whole_value 0 n) +ᵛ linear_value b t (whole_value 0 n)) (linear_value l r (whole_value 0 n))
-      (joined (whole_value 0 c) (whole_value 0 s) (whole_value 0 b) (whole_value 0 t) (whole_value 0 n) ∙ ap₂ (λ u v. u +ᵛ v *ᵛ whole_value 0 n) (sym (whole_value-add c b)) (sym (whole_value-add s t)) ∙ ap₂ (λ u v. linear_value u v (whole_value 0 n)) (sym hl) (sym hr))
+      (with_term (whole_value 0 c) (whole_value 0 s) (whole_value 0 b) (whole_value 0 t) (whole_value 0 n) ∙ ap₂ (λ u v. u +ᵛ v *ᵛ whole_value 0 n) (sym (whole_value-add c b)) (sym (whole_value-add s t)) ∙ ap₂ (λ u v. linear_value u v (whole_value 0 n)) (sym hl) (sym hr))
       (worth-sum (val x (pos 0) n) (val y (pos 0) n) (linear_value c s (whole_value 0 n)) (linear_value b t (whole_value 0 n)) (val-proper x (pos 0) n) (val-proper y (pos 0) n) (h.value n) (k.value n));
   light = light;
   flat = flat;
 }
   where
-    joined : (c s b t x : Value 0) → (c +ᵛ s *ᵛ x) +ᵛ (b +ᵛ t *ᵛ x) ≡ (c +ᵛ b) +ᵛ (s +ᵛ t) *ᵛ x
-    joined c s b t x = ring (ValueR 0) (c ∷ s ∷ b ∷ t ∷ x ∷ []) (search reads depth 20) refl
+    with_term : (c s b t x : Value 0) → (c +ᵛ s *ᵛ x) +ᵛ (b +ᵛ t *ᵛ x) ≡ (c +ᵛ b) +ᵛ (s +ᵛ t) *ᵛ x
+    with_term c s b t x = ring (ValueR 0) (c ∷ s ∷ b ∷ t ∷ x ∷ []) (search reads depth 20) refl
 
     shorter : (u v w : ℤ) → u ≡ v +ℤ w → unsigned_abs u ≤ unsigned_abs v + unsigned_abs w
     shorter u v w e = omega (arith, ints)
@@ -138,7 +138,7 @@ linear-pow x e c s l r some h value size flat = record {
   flat = λ z. flat (h.flat (none_of-product (degrees x).variable e some z));
 }
 
-pub linear-unexpanded : (x : Tree) (e : ℕ) (l r : ℤ) → IsPlain x → e ≡ 0 → l ≡ pos 1 → r ≡ pos 0 → IsLinear (power x e) l r
+pub linear-unexpanded : (x : Tree) (e : ℕ) (l r : ℤ) → IsPolynomial x → e ≡ 0 → l ≡ pos 1 → r ≡ pos 0 → IsLinear (power x e) l r
 linear-unexpanded x e l r plain he hl hr = subst (λ (n : ℕ). IsLinear (power x n) l r) (sym he) (record { value = value; light = light; flat = λ z. hr })
   where
     constant : (x : Value 0) → one_value ≡ whole_value 0 (pos 1) +ᵛ whole_value 0 (pos 0) *ᵛ x

@@ -96,7 +96,7 @@ value_of-none (a ∷ p) z x e f = absurd (omega arith)
 pub summed-step : (p q all lent lent-all lowest lent-lowest r : List Rat) (o : Rat) → Telescopes q p → lent ≡ q → ((x : Value 0) → value_at all x ≡ x *ᵛ value_at lent x) → lent-all ≡ all → lowest ≡ o ∷ [] → lent-lowest ≡ lowest
     → ((x : Value 0) → value_at r x ≡ value_at lent-lowest x +ᵛ value_at lent-all x) → (x : Value 0) → value_at r x ≡ value_at r (x -ᵛ one_value) +ᵛ value_at p x
 summed-step p q all lent lent-all lowest lent-lowest r o hq l hall lall low llow hr x =
-    at x ∙ joined (number o) (x *ᵛ value_at q x) ((x -ᵛ one_value) *ᵛ value_at q (x -ᵛ one_value)) (value_at p x) (hq x) ∙ ap (λ v. v +ᵛ value_at p x) (sym (at (x -ᵛ one_value)))
+    at x ∙ with_term (number o) (x *ᵛ value_at q x) ((x -ᵛ one_value) *ᵛ value_at q (x -ᵛ one_value)) (value_at p x) (hq x) ∙ ap (λ v. v +ᵛ value_at p x) (sym (at (x -ᵛ one_value)))
   where
     at : (z : Value 0) → value_at r z ≡ number o +ᵛ z *ᵛ value_at q z
     at z =
@@ -105,8 +105,8 @@ summed-step p q all lent lent-all lowest lent-lowest r o hq l hall lall low llow
         constant : (o z : Value 0) → o +ᵛ z *ᵛ zero_value ≡ o
         constant o z = ring (ValueR 0) (o ∷ z ∷ []) (search reads depth 16) refl
 
-    joined : (o v w p : Value 0) → v -ᵛ w ≡ p → o +ᵛ v ≡ (o +ᵛ w) +ᵛ p
-    joined o v w p h = by (ValueR 0) (o ∷ v ∷ w ∷ p ∷ []) h (search reads depth 16) refl
+    with_term : (o v w p : Value 0) → v -ᵛ w ≡ p → o +ᵛ v ≡ (o +ᵛ w) +ᵛ p
+    with_term o v w p h = by (ValueR 0) (o ∷ v ∷ w ∷ p ∷ []) h (search reads depth 16) refl
 
 pub summed-start : (all lent lent-all lowest lent-lowest r : List Rat) (o z before : Rat) (x : Value 0) → lent ≡ all → number before ≡ value_at lent x → fraction z ≡ whole (pos 0) → number o ≡ number z -ᵛ number before
     → lent-all ≡ all → lowest ≡ o ∷ [] → lent-lowest ≡ lowest → value_at r x ≡ value_at lent-lowest x +ᵛ value_at lent-all x → value_at r x ≡ zero_value

@@ -5,13 +5,13 @@ use Rattle.std.proofs.Common.{ℤ, pos}
 use Rattle.sg_algebra.proofs.Rational.{whole_value}
 use Rattle.sg_algebra.proofs.Value.{Value}
 use Rattle.sg_plain.specs.Evaluation.{plain_value}
-use Rattle.sg_spec.specs.Plain.{IsPlain}
+use Rattle.sg_spec.specs.Polynomials.{IsPolynomial}
 use Rattle.sg_spec.specs.Tree.{Tree, numeral, here, param, add, neg, mul, div, power, sum_from, prod_from}
 use Rattle.sg_spec.specs.Value.{val}
 use Rattle.sg_values.proofs.Values.{val-proper}
 use Rattle.sg_values.proofs.Worth.{Worth, worth-sum, worth-product, worth-opposite, worth-power, worth-whole}
 
-pub worth-plain : (t : Tree) (k : ℤ) → IsPlain t → Worth (val t (pos 0) k) (plain_value t (whole_value 0 k))
+pub worth-plain : (t : Tree) (k : ℤ) → IsPolynomial t → Worth (val t (pos 0) k) (plain_value t (whole_value 0 k))
 worth-plain (numeral c) k h = worth-whole c
 worth-plain here k h = worth-whole k
 worth-plain param k h = absurd h
@@ -25,5 +25,5 @@ worth-plain (power t e) k h = worth-power (val t (pos 0) k) (plain_value t (whol
 worth-plain (sum_from from body) k h = absurd h
 worth-plain (prod_from from body) k h = absurd h
 
-pub plain-value : (t : Tree) (k : ℤ) → IsPlain t → (v : Value 0) × Worth (val t (pos 0) k) v
+pub plain-value : (t : Tree) (k : ℤ) → IsPolynomial t → (v : Value 0) × Worth (val t (pos 0) k) v
 plain-value t k h = (plain_value t (whole_value 0 k), worth-plain t k h)

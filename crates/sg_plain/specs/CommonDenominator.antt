@@ -5,7 +5,7 @@ use Rattle.std.specs.Prelude.{◌≡◌, ℤ, pos, ◌<ℤ◌, unsigned_abs, Lis
 use Rattle.sg_algebra.proofs.Rational.{whole_value}
 use Rattle.sg_algebra.proofs.Value.{Value, ◌*ᵛ◌}
 use Rattle.sg_num.specs.declared.rat.Rat.{Rat}
-use Rattle.sg_spec.specs.Plain.{common_divisor}
+use Rattle.sg_spec.specs.Polynomials.{common_divisor}
 use Rattle.sg_plain.specs.Evaluation.{value_at}
 use Rattle.sg_plain.specs.Terms.{falling_value}
 

@@ -4,7 +4,7 @@ ghost use Rattle.sg_num.specs.Stopped.{IsMemory, KeepsWideStep};
 ghost use Rattle.sg_plain.specs.Linear.{IsLinear};
 ghost use Rattle.sg_spec.specs.Closed.{Closed};
 ghost use Rattle.sg_spec.specs.Limits.{degrees};
-ghost use Rattle.sg_spec.specs.Plain.{IsPlain, IsCanonical, weight};
+ghost use Rattle.sg_spec.specs.Polynomials.{IsPolynomial, IsCanonical, weight};
 ghost use Rattle.sg_spec.specs.Printing.{InForm};
 
 use crate::coefficients::collected;
@@ -23,7 +23,7 @@ use std::alloc::Global;
 /// coefficients, in whole arithmetic, where no step is wide. The error is out of memory, or a step that doesn't fit 128
 /// bits.
 pub fn closed_form(alloc: Global, f: &Expr, a: i64) -> Result<Expr, Stop>
-    requires { IsPlain (tree_of f.now) }
+    requires { IsPolynomial (tree_of f.now) }
     ensures closed { IfOk result (λ h. Closed (tree_of f.now) [] a (tree_of h) a) }
     ensures canonical { IfOk result (λ h. IsCanonical (tree_of h)) }
     ensures form { IfOk result (λ h. InForm false false (tree_of h)) }
@@ -44,7 +44,7 @@ pub fn closed_form(alloc: Global, f: &Expr, a: i64) -> Result<Expr, Stop>
 
 // The coefficients of f where they and a are small, and f is of degree at most one.
 fn small_linear(f: &Expr, a: i64) -> Option<Linear>
-    requires { IsPlain (tree_of f.now) }
+    requires { IsPolynomial (tree_of f.now) }
     ensures linear { IfSome result (λ l. IsLinear (tree_of f.now) l.constant l.slope) }
     ensures limit { IsSome result → unsigned_abs a ≤ 64 }
     ensures some { (degrees (tree_of f.now)).variable ≤ 1 → weight (tree_of f.now) ≤ 65536 → unsigned_abs a ≤ 64 → IsSome result }
@@ -57,7 +57,7 @@ fn small_linear(f: &Expr, a: i64) -> Option<Linear>
 
 // By telescoping from the term of highest degree down.
 fn summed_by_telescoping(alloc: Global, f: &Expr, a: i64) -> Result<Expr, Stop>
-    requires { IsPlain (tree_of f.now) }
+    requires { IsPolynomial (tree_of f.now) }
     ensures closed { IfOk result (λ h. Closed (tree_of f.now) [] a (tree_of h) a) }
     ensures canonical { IfOk result (λ h. IsCanonical (tree_of h)) }
     ensures form { IfOk result (λ h. InForm false false (tree_of h)) }

@@ -6,7 +6,7 @@ ghost use Rattle.sg_algebra.proofs.ValueField.{ValueR};
 ghost use Rattle.sg_num.specs.Value.{number};
 ghost use Rattle.sg_spec.specs.Tree.{here, numeral};
 ghost use Rattle.sg_spec.specs.Value.{val};
-ghost use Rattle.sg_spec.specs.Plain.{IsPlain};
+ghost use Rattle.sg_spec.specs.Polynomials.{IsPolynomial};
 ghost use Rattle.sg_values.proofs.Worth.{Worth};
 ghost use Rattle.sg_expr.specs.Tree.{tree_of};
 ghost use Rattle.sg_num.specs.Stopped.{KeepsWideStep};
@@ -21,7 +21,7 @@ use std::alloc::{AllocError, Global};
 
 /// The coefficients of a plain polynomial, the lowest first. Zeros may stand at the end.
 pub fn collected(alloc: Global, e: &Expr) -> Result<Vec<Rat>, Stop>
-    requires { IsPlain (tree_of e.now) }
+    requires { IsPolynomial (tree_of e.now) }
     ensures value { IfOk result (λ p. (k : ℤ) → Worth (val (tree_of e.now) (pos 0) k) (value_at p.items (whole_value 0 k))) }
     ensures wide { IfErr result KeepsWideStep }
 {
@@ -34,7 +34,7 @@ pub fn collected(alloc: Global, e: &Expr) -> Result<Vec<Rat>, Stop>
 // are taken in a loop.
 #[cycle(multiples)]
 fn add_multiple(alloc: Global, total: &mut Vec<Rat>, c: Rat, e: &Expr) -> Result<(), Stop>
-    requires { IsPlain (tree_of e.now) }
+    requires { IsPolynomial (tree_of e.now) }
     ensures value { OnOk result ((x : Value 0) → value_at total.new.items x ≡ value_at total.old.items x +ᵛ number c *ᵛ plain_value (tree_of e.now) x) }
     ensures wide { IfErr result KeepsWideStep }
 {
@@ -49,7 +49,7 @@ fn add_multiple(alloc: Global, total: &mut Vec<Rat>, c: Rat, e: &Expr) -> Result
 // Adds c times a plain polynomial, by its parts.
 #[cycle(multiples)]
 fn add_part(alloc: Global, total: &mut Vec<Rat>, c: Rat, e: &Expr) -> Result<(), Stop>
-    requires { IsPlain (tree_of e.now) }
+    requires { IsPolynomial (tree_of e.now) }
     ensures value { OnOk result ((x : Value 0) → value_at total.new.items x ≡ value_at total.old.items x +ᵛ number c *ᵛ plain_value (tree_of e.now) x) }
     ensures wide { IfErr result KeepsWideStep }
 {
@@ -130,7 +130,7 @@ fn is_variable(e: &Expr) -> bool
 // Adds c times a plain polynomial that is none of the simple parts.
 #[inline(never)]
 fn add_other(alloc: Global, total: &mut Vec<Rat>, c: Rat, e: &Expr) -> Result<(), Stop>
-    requires { IsPlain (tree_of e.now) }
+    requires { IsPolynomial (tree_of e.now) }
     ensures value { OnOk result ((x : Value 0) → value_at total.new.items x ≡ value_at total.old.items x +ᵛ number c *ᵛ plain_value (tree_of e.now) x) }
     ensures wide { IfErr result KeepsWideStep }
 {
@@ -152,7 +152,7 @@ fn add_all(total: &mut Vec<Rat>, c: Rat, p: &[Rat]) -> Result<(), Stop>
 
 // The coefficients of a plain polynomial, the lowest first, by sums, products and powers of such lists. Zeros may stand at the end.
 fn coefficients(alloc: Global, e: &Expr) -> Result<Row<Rat>, Stop>
-    requires { IsPlain (tree_of e.now) }
+    requires { IsPolynomial (tree_of e.now) }
     ensures value { IfOk result (λ p. (x : Value 0) → value_at p x ≡ plain_value (tree_of e.now) x) }
     ensures wide { IfErr result KeepsWideStep }
 {

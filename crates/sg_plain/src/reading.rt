@@ -2,14 +2,14 @@ ghost use Rattle.std.specs.Prelude.{◌≤◌, IsSome, IfSome};
 ghost use Rattle.sg_expr.specs.Tree.{tree_of};
 ghost use Rattle.sg_plain.specs.Linear.{IsLinear};
 ghost use Rattle.sg_spec.specs.Limits.{degrees};
-ghost use Rattle.sg_spec.specs.Plain.{IsPlain, weight};
+ghost use Rattle.sg_spec.specs.Polynomials.{IsPolynomial, weight};
 
 use crate::linear::Linear;
 use sg_expr::Expr;
 
 /// The coefficients of a plain polynomial of degree at most one, where they are small.
 pub fn linear(e: &Expr) -> Option<Linear>
-    requires { IsPlain (tree_of e.now) }
+    requires { IsPolynomial (tree_of e.now) }
     ensures linear { IfSome result (λ l. IsLinear (tree_of e.now) l.constant l.slope) }
     ensures some { (degrees (tree_of e.now)).variable ≤ 1 → weight (tree_of e.now) ≤ 65536 → IsSome result }
 {

@@ -2,7 +2,7 @@ ghost use Rattle.std.specs.Prelude.{◌≡◌, ◌≤◌, ◌%◌, ◌∷◌, []
 ghost use Rattle.sg_expr.specs.Tree.{tree_of};
 ghost use Rattle.sg_num.specs.Stopped.{IsMemory};
 ghost use Rattle.sg_plain.specs.Linear.{IsSmall, IsSummed};
-ghost use Rattle.sg_spec.specs.Plain.{canonical};
+ghost use Rattle.sg_spec.specs.Polynomials.{canonical};
 
 use crate::linear::{Linear, multiplied, plus};
 use crate::terms::canonical_tree;

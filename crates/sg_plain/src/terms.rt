@@ -5,7 +5,7 @@ ghost use Rattle.sg_num.specs.Stopped.{IsMemory, KeepsWideStep};
 ghost use Rattle.sg_plain.specs.Linear.{IsSmall};
 ghost use Rattle.sg_plain.specs.Terms.{term};
 ghost use Rattle.sg_spec.specs.Tree.{numeral, add, neg, div};
-ghost use Rattle.sg_spec.specs.Plain.{raised, monomial, joined, with_terms, numerator, leads_below_zero, canonical};
+ghost use Rattle.sg_spec.specs.Polynomials.{variable_power, monomial, with_term, with_terms, numerator, leads_below_zero, canonical};
 
 use crate::whole::{opposite, opposites};
 use sg_expr::Expr;
@@ -70,7 +70,7 @@ fn with_terms(alloc: Global, t: Expr, coefficients: &[i128]) -> Result<Expr, Sto
 
 // The sum t with one more term.
 fn joined(alloc: Global, t: Expr, c: i128, e: usize) -> Result<Expr, Stop>
-    ensures tree { IfOk result (λ s. tree_of s ≡ joined (tree_of t) c e) }
+    ensures tree { IfOk result (λ s. tree_of s ≡ with_term (tree_of t) c e) }
     ensures wide { IfErr result KeepsWideStep }
     ensures narrow { IsSmall c → IfErr result IsMemory }
 {
@@ -127,7 +127,7 @@ fn monomial(alloc: Global, c: i128, e: usize) -> Result<Expr, AllocError>
 
 // The variable to the power e, as it is written.
 fn raised(alloc: Global, e: usize) -> Result<Expr, AllocError>
-    ensures { IfOk result (λ t. tree_of t ≡ raised e) }
+    ensures { IfOk result (λ t. tree_of t ≡ variable_power e) }
 {
     if e == 0 {
         return Ok(Expr::Num(1));

@@ -1,6 +1,6 @@
 ghost use Rattle.std.specs.Prelude.{IfOk};
 ghost use Rattle.sg_expr.specs.Tree.{tree_of};
-ghost use Rattle.sg_spec.specs.Plain.{IsPlain};
+ghost use Rattle.sg_spec.specs.Polynomials.{IsPolynomial};
 
 use crate::closed_form;
 use sg_expr::Expr;
@@ -11,20 +11,20 @@ use std::test::Fail;
 const MAX: i128 = 170141183460469231731687303715884105727;
 
 fn plus(alloc: Global, left: Expr, right: Expr) -> Result<Expr, AllocError>
-    ensures { IfOk result (λ t. IsPlain (tree_of left) → IsPlain (tree_of right) → IsPlain (tree_of t)) }
+    ensures { IfOk result (λ t. IsPolynomial (tree_of left) → IsPolynomial (tree_of right) → IsPolynomial (tree_of t)) }
 {
     Ok(Expr::Add(Box::new(alloc, left)?, Box::new(alloc, right)?))
 }
 
 fn times(alloc: Global, c: i128, right: Expr) -> Result<Expr, AllocError>
-    ensures { IfOk result (λ t. IsPlain (tree_of right) → IsPlain (tree_of t)) }
+    ensures { IfOk result (λ t. IsPolynomial (tree_of right) → IsPolynomial (tree_of t)) }
 {
     let left = Box::new(alloc, Expr::Num(c))?;
     Ok(Expr::Mul(left, Box::new(alloc, right)?))
 }
 
 fn minus(alloc: Global, e: Expr) -> Result<Expr, AllocError>
-    ensures { IfOk result (λ t. IsPlain (tree_of e) → IsPlain (tree_of t)) }
+    ensures { IfOk result (λ t. IsPolynomial (tree_of e) → IsPolynomial (tree_of t)) }
 {
     Ok(Expr::Neg(Box::new(alloc, e)?))
 }
@@ -35,7 +35,7 @@ fn over(alloc: Global, left: Expr, d: i128) -> Result<Expr, AllocError> {
 }
 
 fn power(alloc: Global, e: u128) -> Result<Expr, AllocError>
-    ensures { IfOk result (λ t. IsPlain (tree_of t)) }
+    ensures { IfOk result (λ t. IsPolynomial (tree_of t)) }
 {
     Ok(Expr::Pow(Box::new(alloc, Expr::Here)?, e))
 }
@@ -50,7 +50,7 @@ fn squares(alloc: Global) -> Result<Expr, AllocError> {
 
 /// k^4-3*k+2.
 fn fourth(alloc: Global) -> Result<Expr, AllocError>
-    ensures { IfOk result (λ t. IsPlain (tree_of t)) }
+    ensures { IfOk result (λ t. IsPolynomial (tree_of t)) }
 {
     let below = times(alloc, 3, Expr::Here)?;
     let below = minus(alloc, below)?;
@@ -84,7 +84,7 @@ fn from_hundred(alloc: Global) -> Result<Expr, AllocError> {
 
 /// Whether the sum of f from a on has the closed form that is wanted.
 fn sums_to(alloc: Global, f: Expr, a: i64, want: Expr) -> Result<bool, Stop>
-    requires { IsPlain (tree_of f) }
+    requires { IsPolynomial (tree_of f) }
 {
     let got = closed_form(alloc, &f, a)?;
     Ok(got.same(&want))

@@ -1,12 +1,12 @@
 -- The definitions, tried on a few values that were worked by hand.
-use Rattle.std.specs.Prelude.{pos, negsuc, [], ◌∷◌, Some, None}
-use Rattle.std.proofs.Common.{◌≡◌, refl}
+use Rattle.std.specs.Prelude.{pos, negsuc, true, [], ◌∷◌, Some, None}
+use Rattle.std.proofs.Common.{◌≡◌, refl, arith}
 use Rattle.sg_spec.specs.Fraction.{whole}
-use Rattle.sg_spec.specs.Tree.{Tree, numeral, here, neg, add, mul, div, power, sum_from, prod_from}
+use Rattle.sg_spec.specs.Tree.{Tree, numeral, here, param, neg, add, mul, div, power, sum_from, prod_from}
 use Rattle.sg_spec.specs.Value.{val, total, SameValue}
 use Rattle.sg_spec.specs.Limits.{counted, too_steep}
-use Rattle.sg_spec.specs.Plain.{canonical}
-use Rattle.sg_spec.specs.Generators.{sums, start}
+use Rattle.sg_spec.specs.Polynomials.{canonical}
+use Rattle.sg_spec.specs.Generators.{sums, start, BuiltOver}
 
 -- the tree of H(k)
 harmonic : Tree
@@ -58,3 +58,12 @@ counted-steep = refl
 
 counted-unexpanded : counted (power (power (power here 32) 32) 0 ∷ []) ≡ None
 counted-unexpanded = refl
+
+-- the tree of binom(n,k)
+binomial : Tree
+binomial = prod_from (pos 1) (div (add (add param (numeral (pos 1))) (neg here)) here)
+
+-- k*binom(n,k)/(k-n-1) is built over the product, where the parameter may stand
+built-parameter : BuiltOver (record { parameter = true; products = binomial ∷ []; sums = [] }) (div (mul here binomial) (add (add here (neg param)) (neg (numeral (pos 1)))))
+unfolding binomial
+built-parameter = ((tt, (0, omega arith, refl)), ((tt, refl), tt), refl)

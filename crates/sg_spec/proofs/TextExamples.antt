@@ -18,7 +18,9 @@ built-letter = record {
       (opens_by (act mark ∷ worded ∷ []) refl (later (later first)) (acts (opens_by (variable ∷ []) refl first
       (opens_by (span 97 25 ∷ act letter ∷ act use_name ∷ blanks ∷ []) refl first (eats 107 (omega arith) (omega arith) (acts (acts (opens_by [] refl (later first)
       (opens_by [] refl (later first) (opens_by [] refl (later (later first)) (opens_by [] refl (later (later first)) none_left)))))))))))))))));
-  on_top = refl;
+  left = refl;
+  no_marks = refl;
+  no_numbers = refl;
 }
 
 -- in k, `-k^2` is the opposite of a square

@@ -5,11 +5,10 @@
 --   sums, prods         the distinct sums and products of several expressions, in the order of the expressions
 --   start               the greatest of a and of the lower limits less 1 over all sums and products
 --   Over                built from numerals, the variable, the operations and the listed sums, which may stand in divisors
---   IsPolynomial        built from numerals, the variable, the parameter, sums, products and powers of such
---   IsDivisor           a polynomial, a listed product, and powers, products and opposites of divisors
---   OverWithProducts    as Over, with the listed products too; what is divided by is a divisor, so it holds no sum
-use Rattle.std.specs.Prelude.{◌==◌, ℤ, pos, negsuc, ◌-ℤ◌, Bool, true, false, ◌&&◌, List, [], ◌∷◌, ◌++◌, Contains, cond}
+--   Allowed, BuiltOver  built from what is allowed besides; what is divided by is a divisor, so it holds no sum
+use Rattle.std.specs.Prelude.{◌==◌, ℤ, pos, negsuc, ◌-ℤ◌, Bool, true, false, ◌&&◌, IsTrue, List, [], ◌∷◌, ◌++◌, Contains, cond}
 use Rattle.std.specs.Int.{int_max}
+use Rattle.sg_spec.specs.Shape.{is_divisor_tree}
 use Rattle.sg_spec.specs.Tree.{Tree, numeral, here, param, add, neg, mul, div, power, sum_from, prod_from}
 
 abbrev pub same_whole : ℤ → ℤ → Bool
@@ -60,12 +59,12 @@ has_tree t [] = false
 has_tree t (u ∷ us) = cond (same_tree t u) true (has_tree t us)
 
 -- those of the second list that stand neither in the first nor before, after the first
-abbrev pub joined : List Tree → List Tree → List Tree
-joined known [] = known
-joined known (t ∷ ts) = joined (cond (has_tree t known) known (known ++ (t ∷ []))) ts
+abbrev pub with_new : List Tree → List Tree → List Tree
+with_new known [] = known
+with_new known (t ∷ ts) = with_new (cond (has_tree t known) known (known ++ (t ∷ []))) ts
 
 abbrev pub distinct : List Tree → List Tree
-distinct ts = joined [] ts
+distinct ts = with_new [] ts
 
 abbrev pub concatenated : (Tree → List Tree) → List Tree → List Tree
 concatenated f [] = []
@@ -105,39 +104,20 @@ Over ss (power x e) = Over ss x
 Over ss (sum_from from body) = Contains ss (sum_from from body)
 Over ss (prod_from from body) = ⊥
 
-abbrev pub IsPolynomial : Tree → Type 0
-IsPolynomial (numeral c) = Unit {0}
-IsPolynomial here = Unit {0}
-IsPolynomial param = Unit {0}
-IsPolynomial (add x y) = IsPolynomial x × IsPolynomial y
-IsPolynomial (neg x) = IsPolynomial x
-IsPolynomial (mul x y) = IsPolynomial x × IsPolynomial y
-IsPolynomial (div x y) = ⊥
-IsPolynomial (power x e) = IsPolynomial x
-IsPolynomial (sum_from from body) = ⊥
-IsPolynomial (prod_from from body) = ⊥
+-- what may stand in an expression besides numerals, the variable and the operations
+pub record Allowed : Type 0 where
+  pub parameter : Bool
+  pub products : List Tree
+  pub sums : List Tree
 
--- a mul, neg or power is one by its parts, or as a polynomial
-abbrev pub IsDivisor : List Tree → Tree → Type 0
-IsDivisor ps (numeral c) = Unit {0}
-IsDivisor ps here = Unit {0}
-IsDivisor ps param = Unit {0}
-IsDivisor ps (add x y) = IsPolynomial x × IsPolynomial y
-IsDivisor ps (neg x) = IsDivisor ps x
-IsDivisor ps (mul x y) = IsDivisor ps x × IsDivisor ps y
-IsDivisor ps (div x y) = ⊥
-IsDivisor ps (power x e) = IsDivisor ps x
-IsDivisor ps (sum_from from body) = ⊥
-IsDivisor ps (prod_from from body) = Contains ps (prod_from from body)
-
-abbrev pub OverWithProducts : List Tree → List Tree → Tree → Type 0
-OverWithProducts ps ss (numeral c) = Unit {0}
-OverWithProducts ps ss here = Unit {0}
-OverWithProducts ps ss param = ⊥
-OverWithProducts ps ss (add x y) = OverWithProducts ps ss x × OverWithProducts ps ss y
-OverWithProducts ps ss (neg x) = OverWithProducts ps ss x
-OverWithProducts ps ss (mul x y) = OverWithProducts ps ss x × OverWithProducts ps ss y
-OverWithProducts ps ss (div x y) = OverWithProducts ps ss x × OverWithProducts ps ss y × IsDivisor ps y
-OverWithProducts ps ss (power x e) = OverWithProducts ps ss x
-OverWithProducts ps ss (sum_from from body) = Contains ss (sum_from from body)
-OverWithProducts ps ss (prod_from from body) = Contains ps (prod_from from body)
+abbrev pub BuiltOver : Allowed → Tree → Type 0
+BuiltOver allowed (numeral c) = Unit {0}
+BuiltOver allowed here = Unit {0}
+BuiltOver allowed param = IsTrue allowed.parameter
+BuiltOver allowed (add x y) = BuiltOver allowed x × BuiltOver allowed y
+BuiltOver allowed (neg x) = BuiltOver allowed x
+BuiltOver allowed (mul x y) = BuiltOver allowed x × BuiltOver allowed y
+BuiltOver allowed (div x y) = BuiltOver allowed x × BuiltOver allowed y × IsTrue (is_divisor_tree y)
+BuiltOver allowed (power x e) = BuiltOver allowed x
+BuiltOver allowed (sum_from from body) = Contains allowed.sums (sum_from from body)
+BuiltOver allowed (prod_from from body) = Contains allowed.products (prod_from from body)

@@ -33,7 +33,6 @@ pub data Action : Type 0 where
   make_binomial : Action
   make_power : Action
 
--- no rule of another part names the last four: they say what may come after the first letter of a name or a word
 pub data Symbol : Type 0 where
   span : ℕ → ℕ → Symbol
   act : Action → Symbol
@@ -61,10 +60,6 @@ pub data Symbol : Type 0 where
   name : Symbol
   digits : Symbol
   more_digits : Symbol
-  after_s : Symbol
-  after_p : Symbol
-  after_f : Symbol
-  after_b : Symbol
 
 abbrev pub token : List ℕ → List Symbol → List Symbol
 token [] parts = blanks ∷ parts
@@ -109,13 +104,6 @@ rules divisor = token (codes "/") (act mark ∷ digits ∷ act use_number ∷ ac
 rules name = (act mark ∷ span 97 25 ∷ act letter ∷ blanks ∷ []) ∷ []
 rules digits = (act begin_number ∷ span 48 9 ∷ act digit ∷ more_digits ∷ blanks ∷ []) ∷ []
 rules more_digits = (span 48 9 ∷ act digit ∷ more_digits ∷ []) ∷ [] ∷ []
-rules after_s = token (codes "um") (bounds_and_body ∷ act make_sum ∷ []) ∷ (act letter ∷ act use_name ∷ blanks ∷ []) ∷ []
-rules after_p = token (codes "rod") (bounds_and_body ∷ act make_product ∷ [])
-    ∷ token (codes "ow") (const_and_name ∷ act make_power ∷ [])
-    ∷ (act letter ∷ act use_name ∷ blanks ∷ [])
-    ∷ []
-rules after_f = token (codes "act") (one_name ∷ act make_factorial ∷ []) ∷ (act letter ∷ act use_name ∷ blanks ∷ []) ∷ []
-rules after_b = token (codes "inom") (expr_and_name ∷ act make_binomial ∷ []) ∷ (act letter ∷ act use_name ∷ blanks ∷ []) ∷ []
 
 pub data IsOneOf {A : Type 0} (x : A) : List A → Type 0 where
   first : {xs : List A} → IsOneOf x (x ∷ xs)

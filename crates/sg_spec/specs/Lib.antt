@@ -1,6 +1,7 @@
 pub mod Fraction
 pub mod Width
 pub mod Tree
+pub mod Shape
 pub mod Value
 pub mod Grammar
 pub mod Syntax
@@ -8,7 +9,7 @@ pub mod Reading
 pub mod Generators
 pub mod Closed
 pub mod Limits
-pub mod Plain
+pub mod Polynomials
 pub mod Parameter
 pub mod Steps
 pub mod Printing

@@ -3,9 +3,6 @@
 --   has_parameter       whether the second letter is given
 --   IsPrintable         reader's form: some text reads as the tree
 --   InForm              the same by cases on the tree, as far as its numbers have at most 64 digits
---   is_polynomial_tree  built from numerals, the variable and the parameter without calls and divisions
---   is_divisor_tree     a polynomial, a product, and powers, products and opposites of divisors
---   is_constant_tree    built from numerals and the parameter without calls and divisions
 --   IsShort             its numbers have at most 64 digits
 --   keeps_numbers       every number and every exponent that is written is taken
 --   KeepsBounds         a text is as short and as flat as a reader wants, and its numbers are taken
@@ -14,6 +11,7 @@
 --   NoBlank             a text without blanks
 use Rattle.std.specs.Prelude.{◌≡◌, ◌≢◌, ◌==◌, ℕ, ◌+◌, ◌≤◌, ◌<◌, ◌^◌, pos, ◌≤ℤ◌, unsigned_abs, Bool, true, false, cond, ◌&&◌, List, [], ◌∷◌, All}
 use Rattle.sg_spec.specs.Tree.{Tree, numeral, here, param, add, neg, mul, div, power, sum_from, prod_from}
+use Rattle.sg_spec.specs.Shape.{is_divisor_tree}
 use Rattle.sg_spec.specs.Syntax.{Placed, number, named, negated, added, subtracted, multiplied, divided, raised, sum_call, product_call, harmonic, harmonic_of_order, factorial, binomial, constant_power}
 use Rattle.sg_spec.specs.Reading.{is_small, Limits, Bounds, KeepsSize, HasTree, Reads}
 
@@ -29,36 +27,6 @@ has_parameter (v ∷ (p ∷ more)) = true
 
 abbrev pub IsPrintable : List ℕ → Tree → Type 0
 IsPrintable names e = (w : List ℕ) × Reads w names e
-
-abbrev pub is_polynomial_tree : Tree → Bool
-is_polynomial_tree (numeral z) = true
-is_polynomial_tree here = true
-is_polynomial_tree param = true
-is_polynomial_tree (add x y) = is_polynomial_tree x && is_polynomial_tree y
-is_polynomial_tree (neg x) = is_polynomial_tree x
-is_polynomial_tree (mul x y) = is_polynomial_tree x && is_polynomial_tree y
-is_polynomial_tree (power x e) = is_polynomial_tree x
-is_polynomial_tree x = false
-
-abbrev pub is_divisor_tree : Tree → Bool
-is_divisor_tree (numeral z) = true
-is_divisor_tree here = true
-is_divisor_tree param = true
-is_divisor_tree (add x y) = is_polynomial_tree x && is_polynomial_tree y
-is_divisor_tree (neg x) = is_divisor_tree x
-is_divisor_tree (mul x y) = is_divisor_tree x && is_divisor_tree y
-is_divisor_tree (power x e) = is_divisor_tree x
-is_divisor_tree (prod_from z x) = true
-is_divisor_tree x = false
-
-abbrev pub is_constant_tree : Tree → Bool
-is_constant_tree (numeral z) = true
-is_constant_tree param = true
-is_constant_tree (add x y) = is_constant_tree x && is_constant_tree y
-is_constant_tree (neg x) = is_constant_tree x
-is_constant_tree (mul x y) = is_constant_tree x && is_constant_tree y
-is_constant_tree (power x e) = is_constant_tree x
-is_constant_tree x = false
 
 -- the first test tells whether there is a parameter, the second whether the tree stands in the body of a product
 abbrev pub InForm : Bool → Bool → Tree → Type 0

@@ -2,14 +2,13 @@
 --   names            the letters of a scope: the first names its variable, the second, if there is one, the parameter
 --   inside           the names in a body whose bound name is given
 --   tree_in          the tree of a placed tree under these names, with the shorthands written out
---   is_polynomial    built from numbers, the variable and the parameter without calls and divisions
---   is_divisor       a polynomial, a product, and powers, products and opposites of divisors
---   is_constant      built from numbers and names other than the variable without calls and divisions
+--   is_divisor       its tree is a divisor, and no name in it is unknown
+--   is_constant      its tree is a constant; an unknown name is taken for the parameter there
 --   Kind, Fault      what is wrong in a text that has the right form, and where
 --   Limits           tests of the numbers and of the exponents that are taken
 --   faults           the faults of a placed tree, in no order
 --   IsFirst          the one at the least place; of those at one place, the one of the first kind
---   HasTree          the placed tree of a text
+--   HasTree          the placed tree of a text: it is what the text leaves, and nothing else is left
 --   Reads            the text is one of the language, without fault, and this is its tree: no size is bounded
 --   open_after       how many parentheses are open after these bytes; one that closes nothing closes nothing
 --   Bounds           what a reader takes: how many bytes, how many open parentheses, which numbers and exponents
@@ -18,8 +17,9 @@
 --   IsRead           the tree of a text that keeps its bounds
 use Rattle.std.specs.Prelude.{◌≡◌, ◌==◌, ℕ, zero, suc, ◌+◌, ◌-◌, ◌≤◌, ◌<◌, nat_lt, ℤ, pos, neg_ℤ, Bool, true, false, not, cond, ◌&&◌, ◌||◌, ◌⊎◌, List, [], ◌∷◌, ◌++◌, length, take}
 use Rattle.sg_spec.specs.Tree.{Tree, numeral, here, param, add, neg, mul, div, power, sum_from, prod_from}
+use Rattle.sg_spec.specs.Shape.{is_divisor_tree, is_constant_tree}
 use Rattle.sg_spec.specs.Grammar.{text, IsOneOf, Builds, IsSyntaxFault}
-use Rattle.sg_spec.specs.Syntax.{Spot, Placed, number, named, negated, added, subtracted, multiplied, divided, raised, sum_call, product_call, harmonic, harmonic_of_order, factorial, binomial, constant_power, State, at_start, after_byte, after_action, top_tree, rest}
+use Rattle.sg_spec.specs.Syntax.{Spot, Placed, number, named, negated, added, subtracted, multiplied, divided, raised, sum_call, product_call, harmonic, harmonic_of_order, factorial, binomial, constant_power, State, at_start, after_byte, after_action, rest}
 
 abbrev pub is_variable : List ℕ → ℕ → Bool
 is_variable [] c = false
@@ -66,39 +66,22 @@ tree_in names (factorial c v) = prod_from (pos 1) here
 tree_in names (binomial c s x v) = binomial_product (tree_in names x)
 tree_in names (constant_power c x v) = prod_from (pos 1) (tree_in names x)
 
-abbrev pub is_polynomial : List ℕ → Placed → Bool
-is_polynomial names (number s) = true
-is_polynomial names (named s) = is_known names s.value
-is_polynomial names (negated x) = is_polynomial names x
-is_polynomial names (added x y) = is_polynomial names x && is_polynomial names y
-is_polynomial names (subtracted x y) = is_polynomial names x && is_polynomial names y
-is_polynomial names (multiplied x y) = is_polynomial names x && is_polynomial names y
-is_polynomial names (raised x e) = is_polynomial names x
-is_polynomial names x = false
+-- each name outside of calls is the variable's or the parameter's
+abbrev pub all_known : List ℕ → Placed → Bool
+all_known names (named s) = is_known names s.value
+all_known names (negated x) = all_known names x
+all_known names (added x y) = all_known names x && all_known names y
+all_known names (subtracted x y) = all_known names x && all_known names y
+all_known names (multiplied x y) = all_known names x && all_known names y
+all_known names (divided x s y) = all_known names x && all_known names y
+all_known names (raised x e) = all_known names x
+all_known names x = true
 
 abbrev pub is_divisor : List ℕ → Placed → Bool
-is_divisor names (number s) = true
-is_divisor names (named s) = is_known names s.value
-is_divisor names (negated x) = is_divisor names x
-is_divisor names (added x y) = is_polynomial names x && is_polynomial names y
-is_divisor names (subtracted x y) = is_polynomial names x && is_polynomial names y
-is_divisor names (multiplied x y) = is_divisor names x && is_divisor names y
-is_divisor names (raised x e) = is_divisor names x
-is_divisor names (product_call c bound sign lower upper body) = true
-is_divisor names (factorial c v) = true
-is_divisor names (binomial c s x v) = true
-is_divisor names (constant_power c x v) = true
-is_divisor names x = false
+is_divisor names x = all_known names x && is_divisor_tree (tree_in names x)
 
 abbrev pub is_constant : List ℕ → Placed → Bool
-is_constant names (number s) = true
-is_constant names (named s) = not (is_variable names s.value)
-is_constant names (negated x) = is_constant names x
-is_constant names (added x y) = is_constant names x && is_constant names y
-is_constant names (subtracted x y) = is_constant names x && is_constant names y
-is_constant names (multiplied x y) = is_constant names x && is_constant names y
-is_constant names (raised x e) = is_constant names x
-is_constant names x = false
+is_constant names x = is_constant_tree (tree_in names x)
 
 pub data Kind : Type 0 where
   numeral_fault : Kind
@@ -175,7 +158,9 @@ pub record IsFirst (f : Fault) (all : List Fault) : Type 0 where
 pub record HasTree (w : List ℕ) (t : Placed) : Type 0 where
   pub end : State
   pub built : Builds after_byte after_action (text ∷ []) w at_start end
-  pub on_top : top_tree end.trees ≡ t
+  pub left : end.trees ≡ t ∷ []
+  pub no_marks : end.marks ≡ []
+  pub no_numbers : end.numbers ≡ []
 
 pub record Reads (w : List ℕ) (names : List ℕ) (e : Tree) : Type 0 where
   pub placed : Placed

@@ -2,10 +2,11 @@
 --   Sizes            how many marks, numbers and trees wait
 --   after_act, after_part, after_parts     how many wait after an action, a part, a row of parts; none where some are wanting
 --   Builds-sizes     as many wait as the parts say
---   one_left         after a whole text one tree and nothing else waits
+--   has_tree         a whole text leaves one tree and nothing else
 use Rattle.std.specs.Prelude.{◌≡◌, ℕ, zero, suc, List, [], ◌∷◌, ◌++◌, length, false, Option, Some, None}
 use Rattle.std.proofs.Common.{refl, ap, ◌∙◌, arith}
-use Rattle.sg_spec.specs.Grammar.{Action, mark, letter, minus_sign, begin_number, digit, use_number, use_name, negate, add_up, subtract, multiply, divide, raise, make_sum, make_product, make_harmonic, make_harmonic_of_order, make_factorial, make_binomial, make_power, Symbol, span, act, blanks, text, expr, more_terms, term, more_factors, factor, exponent, atom, worded, variable, call, bounds_and_body, name_and_order, one_name, expr_and_name, const_and_name, order, int, const, divisor, name, digits, more_digits, after_s, after_p, after_f, after_b, rules, IsOneOf, first, later, is_act, Builds, none_left, eats, acts, opens_by}
+use Rattle.sg_spec.specs.Grammar.{Action, mark, letter, minus_sign, begin_number, digit, use_number, use_name, negate, add_up, subtract, multiply, divide, raise, make_sum, make_product, make_harmonic, make_harmonic_of_order, make_factorial, make_binomial, make_power, Symbol, span, act, blanks, text, expr, more_terms, term, more_factors, factor, exponent, atom, worded, variable, call, bounds_and_body, name_and_order, one_name, expr_and_name, const_and_name, order, int, const, divisor, name, digits, more_digits, rules, IsOneOf, first, later, is_act, Builds, none_left, eats, acts, opens_by}
+use Rattle.sg_spec.specs.Reading.{HasTree}
 use Rattle.sg_spec.specs.Syntax.{Spot, Placed, State, at_start, after_byte, after_action, top_tree}
 
 pub data Sizes : Type 0 where
@@ -89,14 +90,6 @@ after_part name (sizes m n t) = Some (sizes (suc m) n t)
 after_part digits (sizes m n t) = Some (sizes m (suc n) t)
 after_part more_digits (sizes m (suc n) t) = Some (sizes m (suc n) t)
 after_part more_digits s = None
-after_part after_s (sizes (suc m) n t) = Some (sizes m n (suc t))
-after_part after_s s = None
-after_part after_p (sizes (suc m) n t) = Some (sizes m n (suc t))
-after_part after_p s = None
-after_part after_f (sizes (suc m) n t) = Some (sizes m n (suc t))
-after_part after_f s = None
-after_part after_b (sizes (suc m) n t) = Some (sizes m n (suc t))
-after_part after_b s = None
 
 abbrev pub onward : Option Sizes → (Sizes → Option Sizes) → Option Sizes
 onward None f = None
@@ -205,28 +198,6 @@ rule_sizes more_digits way h first (sizes m zero t) r e = absurd (cc)
 rule_sizes more_digits way h (later first) (sizes m (suc n) t) r e = e
 rule_sizes more_digits way h (later first) (sizes m zero t) r e = absurd (cc)
 rule_sizes more_digits way h (later (later i)) s r e = elim i [ ]
-rule_sizes after_s way h first (sizes (suc m) n t) r e = e
-rule_sizes after_s way h first (sizes zero n t) r e = absurd (cc)
-rule_sizes after_s way h (later first) (sizes (suc m) n t) r e = e
-rule_sizes after_s way h (later first) (sizes zero n t) r e = absurd (cc)
-rule_sizes after_s way h (later (later i)) s r e = elim i [ ]
-rule_sizes after_p way h first (sizes (suc m) n t) r e = e
-rule_sizes after_p way h first (sizes zero n t) r e = absurd (cc)
-rule_sizes after_p way h (later first) (sizes (suc m) n t) r e = e
-rule_sizes after_p way h (later first) (sizes zero n t) r e = absurd (cc)
-rule_sizes after_p way h (later (later first)) (sizes (suc m) n t) r e = e
-rule_sizes after_p way h (later (later first)) (sizes zero n t) r e = absurd (cc)
-rule_sizes after_p way h (later (later (later i))) s r e = elim i [ ]
-rule_sizes after_f way h first (sizes (suc m) n t) r e = e
-rule_sizes after_f way h first (sizes zero n t) r e = absurd (cc)
-rule_sizes after_f way h (later first) (sizes (suc m) n t) r e = e
-rule_sizes after_f way h (later first) (sizes zero n t) r e = absurd (cc)
-rule_sizes after_f way h (later (later i)) s r e = elim i [ ]
-rule_sizes after_b way h first (sizes (suc m) n t) r e = e
-rule_sizes after_b way h first (sizes zero n t) r e = absurd (cc)
-rule_sizes after_b way h (later first) (sizes (suc m) n t) r e = e
-rule_sizes after_b way h (later first) (sizes zero n t) r e = absurd (cc)
-rule_sizes after_b way h (later (later i)) s r e = elim i [ ]
 
 abbrev pub sizes_of : State → Sizes
 sizes_of x = sizes (length x.marks) (length x.numbers) (length x.trees)
@@ -330,8 +301,20 @@ lone [] h = absurd (omega arith)
 lone (t ∷ []) h = refl
 lone (t ∷ (u ∷ us)) h = absurd (omega arith)
 
-pub one_left : (w : List ℕ) (y : State) → Builds after_byte after_action (text ∷ []) w at_start y → y.trees ≡ top_tree y.trees ∷ []
-one_left w y s = let e = Builds-sizes s (sizes 0 0 1) refl in lone y.trees (count y e)
-  where
-    count : (x : State) → sizes_of x ≡ sizes 0 0 1 → length x.trees ≡ 1
-    count x h = cc
+none : (ss : List Spot) → length ss ≡ 0 → ss ≡ []
+none [] h = refl
+none (s ∷ ss) h = absurd (omega arith)
+
+one_tree : (x : State) → sizes_of x ≡ sizes 0 0 1 → length x.trees ≡ 1
+one_tree x h = cc
+
+no_mark : (x : State) → sizes_of x ≡ sizes 0 0 1 → length x.marks ≡ 0
+no_mark x h = cc
+
+no_number : (x : State) → sizes_of x ≡ sizes 0 0 1 → length x.numbers ≡ 0
+no_number x h = cc
+
+pub has_tree : (w : List ℕ) (y : State) → Builds after_byte after_action (text ∷ []) w at_start y → HasTree w (top_tree y.trees)
+has_tree w y s =
+    let e = Builds-sizes s (sizes 0 0 1) refl in
+    record { end = y; built = s; left = lone y.trees (one_tree y e); no_marks = none y.marks (no_mark y e); no_numbers = none y.numbers (no_number y e) }

@@ -9,7 +9,7 @@ use Rattle.sg_spec.specs.Tree.{Tree}
 use Rattle.sg_spec.specs.Grammar.{IsText, IsFront, IsSyntaxFault}
 use Rattle.sg_spec.specs.Syntax.{Placed}
 use Rattle.sg_spec.specs.Reading.{Kind, numeral_fault, exponent_fault, unbound, form, Fault, rank, NotAfter, IsFirst, faults, HasTree, IsDeep, Bounds, KeepsSize, Refusal, too_long, too_deep, no_text, faulty, IsRefused, IsRead}
-use Rattle.sg_syntax.proofs.Way.{spelled}
+use Rattle.sg_syntax.proofs.Same.{spelled}
 use Rattle.sg_syntax.proofs.Unique.{HasTree-unique, Reads-unique}
 
 pub IsRead-unique : (bounds : Bounds) (names w : List ℕ) (e f : Tree) → IsRead bounds names w e → IsRead bounds names w f → e ≡ f

@@ -1,8 +1,10 @@
 pub mod Ranges
+pub mod Deriving
 pub mod Words
 pub mod Tables
 pub mod Way
 pub mod Runs
+pub mod Same
 pub mod Unique
 pub mod Exclusive
 pub mod Turns

@@ -7,11 +7,13 @@
 use Rattle.std.specs.Prelude.{◌≡◌, ℕ, zero, suc, ◌+◌, ◌≤◌, ◌<◌, List, [], ◌∷◌, ◌++◌, true, false, ◌&&◌, length, take, slice_index_or}
 use Rattle.std.proofs.Common.{refl, sym, ap, ◌∙◌, arith, add-one}
 use Rattle.std.proofs.Math.Seq.{take-length, take-suc}
-use Rattle.sg_spec.specs.Grammar.{Action, Symbol, span, act, text, IsSyntaxFault}
+use Rattle.sg_spec.specs.Grammar.{Action, text as start, IsSyntaxFault}
+use Rattle.sg_syntax.specs.Table.{Symbol, span, act, text}
 use Rattle.sg_spec.specs.Syntax.{Placed, State, at_start, after_byte, top_tree}
 use Rattle.sg_syntax.specs.Stack.{predict, lead, opened, acted, accepts, next, runs, stack_after, state_after, finished}
 use Rattle.sg_syntax.specs.Drafts.{capped_action}
 use Rattle.sg_syntax.specs.Machines.{Advances, HasCappedTree}
+use Rattle.sg_syntax.proofs.Same.{builds-from, fault-from}
 use Rattle.sg_syntax.proofs.Runs.{runs-one_more, stack_after-one_more, state_after-one_more, fault_within, fault_at_end, builds_made}
 use Rattle.sg_spec.specs.Grammar.{mark, letter, minus_sign, begin_number, digit, use_number, use_name, negate, add_up, subtract, multiply, divide, raise, make_sum, make_product, make_harmonic, make_harmonic_of_order, make_factorial, make_binomial, make_power}
 
@@ -78,7 +80,7 @@ reached-next w i p q s t h r a d =
     }
 
 pub reached-fault : (w : List ℕ) (i : ℕ) (p : List Symbol) (s : State) → i < length w → Reached w i p s → accepts (slice_index_or w i 0) p ≡ false → IsSyntaxFault w i
-reached-fault w i p s h r a = fault_within w i h r.runs_so_far (runs-more w i p s h r ∙ a)
+reached-fault w i p s h r a = fault-from w i (fault_within w i h r.runs_so_far (runs-more w i p s h r ∙ a))
 
 whole : (w : List ℕ) (i : ℕ) → length w ≤ i → i ≤ length w → take i w ≡ w
 whole w i h k = let e : i ≡ length w = omega arith in ap (λ q. take q w) e ∙ take-length w
@@ -90,11 +92,11 @@ reached-end w i p s t tree h k r e f g =
     let state : s ≡ state_after after_byte capped_action w begun at_start = r.state ∙ ap (λ q. state_after after_byte capped_action q begun at_start) (whole w i h k) in
     record {
       end = finished capped_action (stack_after w begun) (state_after after_byte capped_action w begun at_start);
-      built = builds_made after_byte capped_action w begun at_start (sym (ap (λ q. runs q begun) (whole w i h k)) ∙ r.runs_so_far) (sym (ap (λ q. opened (lead q) 0 q) last) ∙ e);
+      built = builds-from after_byte capped_action (start ∷ []) (builds_made after_byte capped_action w begun at_start (sym (ap (λ q. runs q begun) (whole w i h k)) ∙ r.runs_so_far) (sym (ap (λ q. opened (lead q) 0 q) last) ∙ e));
       on_top = sym (g ∙ ap (λ (x : State). top_tree x.trees) (f ∙ (ap (λ q. finished capped_action q s) last ∙ ap (finished capped_action (stack_after w begun)) state)));
     }
 
 pub reached-broken : (w : List ℕ) (i : ℕ) (p : List Symbol) (s : State) → length w ≤ i → i ≤ length w → Reached w i p s → (opened (lead p) 0 p ≡ [] → ⊥) → IsSyntaxFault w (length w)
 reached-broken w i p s h k r n =
     let last : p ≡ stack_after w begun = r.stack ∙ ap (λ q. stack_after q begun) (whole w i h k) in
-    fault_at_end w (sym (ap (λ q. runs q begun) (whole w i h k)) ∙ r.runs_so_far) (λ e. n (ap (λ q. opened (lead q) 0 q) last ∙ e))
+    fault-from w (length w) (fault_at_end w (sym (ap (λ q. runs q begun) (whole w i h k)) ∙ r.runs_so_far) (λ e. n (ap (λ q. opened (lead q) 0 q) last ∙ e)))

@@ -13,7 +13,9 @@ use Rattle.std.proofs.Common.{refl, sym, ap, ◌∙◌, arith, subst, inl, inr, 
 use Rattle.std.proofs.lemmas.Bool.Decides.{nat_tests}
 use Rattle.std.proofs.lemmas.List.{append-nil, take-append-drop, take-take}
 use Rattle.std.proofs.Math.Seq.{take-length}
-use Rattle.sg_spec.specs.Grammar.{Action, Symbol, span, act, text, rules, IsOneOf, first, later, Spells, nothing, one_byte, by_rule, is_act, Builds, none_left, eats, acts, opens_by, IsText, IsFront, IsSyntaxFault}
+use Rattle.sg_spec.specs.Grammar.{Action, IsOneOf, first, later}
+use Rattle.sg_syntax.specs.Table.{Symbol, span, act, text, rules}
+use Rattle.sg_syntax.proofs.Deriving.{Spells, nothing, one_byte, by_rule, is_act, Builds, none_left, eats, acts, opens_by, IsText, IsFront, IsSyntaxFault}
 use Rattle.sg_spec.specs.Syntax.{rest}
 use Rattle.sg_syntax.specs.Ranges.{from, in_range}
 use Rattle.sg_syntax.specs.Stack.{ways, predict, cost, lead, opened, acted, takes, accepts, next, runs, stack_after, state_after, finished}

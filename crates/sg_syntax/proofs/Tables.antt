@@ -4,10 +4,12 @@
 --   keeps          what comes after each part of a way is foreseen
 --   tells          the ways begin differently
 --   firm           of the ways only the last may be empty
+--   by_table       a test that holds of each span, of each action and of all named symbols holds of every symbol
 --   rules_begin, ways_keep, ways_firm, rules_firm, ways_tell, ways_lead, ways_end     the checks
-use Rattle.std.specs.Prelude.{◌≡◌, ℕ, List, [], ◌∷◌, Bool, true, false, not, ◌&&◌, ltb}
-use Rattle.std.proofs.Common.{refl}
-use Rattle.sg_spec.specs.Grammar.{Symbol, span, act, blanks, text, expr, more_terms, term, more_factors, factor, exponent, atom, worded, variable, call, bounds_and_body, name_and_order, one_name, expr_and_name, const_and_name, order, int, const, divisor, name, digits, more_digits, after_s, after_p, after_f, after_b, rules}
+use Rattle.std.specs.Prelude.{◌≡◌, ◌<◌, ℕ, zero, suc, length, List, [], ◌∷◌, Bool, true, false, not, ◌&&◌, ltb}
+use Rattle.std.proofs.Common.{refl, ap, arith}
+use Rattle.sg_spec.specs.Grammar.{Action}
+use Rattle.sg_syntax.specs.Table.{Symbol, span, act, blanks, text, expr, more_terms, term, more_factors, factor, exponent, atom, worded, variable, call, bounds_and_body, name_and_order, one_name, expr_and_name, const_and_name, order, int, const, divisor, name, digits, more_digits, after_s, after_p, after_f, after_b, rules}
 use Rattle.sg_syntax.specs.Ranges.{Range, from}
 use Rattle.sg_syntax.specs.Stack.{firsts, ends, ways, opens, may_end, predict, cost, lead}
 use Rattle.sg_syntax.proofs.Ranges.{covers, apart}
@@ -85,227 +87,109 @@ last_of [] = []
 last_of (x ∷ []) = x
 last_of (x ∷ (y ∷ more)) = last_of (y ∷ more)
 
+-- ---- One lemma for all tables
+
+abbrev pub named : List Symbol
+named = blanks ∷ text ∷ expr ∷ more_terms ∷ term ∷ more_factors ∷ factor ∷ exponent ∷ atom ∷ worded ∷ variable ∷ call ∷ bounds_and_body ∷ name_and_order ∷ one_name ∷ expr_and_name ∷ const_and_name ∷ order ∷ int ∷ const ∷ divisor ∷ name ∷ digits ∷ more_digits ∷ after_s ∷ after_p ∷ after_f ∷ after_b ∷ []
+
+abbrev pub holds_of : (Symbol → Bool) → List Symbol → Bool
+holds_of test [] = true
+holds_of test (x ∷ xs) = test x && holds_of test xs
+
+-- the item at a place
+abbrev pub item : ℕ → List Symbol → Symbol
+item n [] = text
+item zero (x ∷ xs) = x
+item (suc n) (x ∷ xs) = item n xs
+
+left_of : (a b : Bool) → (a && b) ≡ true → a ≡ true
+left_of true b h = refl
+left_of false b h = h
+
+right_of : (a b : Bool) → (a && b) ≡ true → b ≡ true
+right_of true b h = h
+right_of false b h = absurd (cc)
+
+pub item_holds : (test : Symbol → Bool) (xs : List Symbol) (n : ℕ) → n < length xs → holds_of test xs ≡ true → test (item n xs) ≡ true
+item_holds test [] n l h = absurd (omega arith)
+item_holds test (x ∷ xs) zero l h = left_of (test x) (holds_of test xs) h
+item_holds test (x ∷ xs) (suc n) l h = item_holds test xs n (omega arith) (right_of (test x) (holds_of test xs) h)
+
+-- a test of each part of the grammar is one of the spans, of the actions, and of the named parts
+pub by_table : (test : Symbol → Bool) → ((low more : ℕ) → test (span low more) ≡ true) → ((a : Action) → test (act a) ≡ true) → holds_of test named ≡ true → (part : Symbol) → test part ≡ true
+by_table test of_span of_act h (span low more) = of_span low more
+by_table test of_span of_act h (act a) = of_act a
+by_table test of_span of_act h blanks = item_holds test named 0 (omega arith) h
+by_table test of_span of_act h text = item_holds test named 1 (omega arith) h
+by_table test of_span of_act h expr = item_holds test named 2 (omega arith) h
+by_table test of_span of_act h more_terms = item_holds test named 3 (omega arith) h
+by_table test of_span of_act h term = item_holds test named 4 (omega arith) h
+by_table test of_span of_act h more_factors = item_holds test named 5 (omega arith) h
+by_table test of_span of_act h factor = item_holds test named 6 (omega arith) h
+by_table test of_span of_act h exponent = item_holds test named 7 (omega arith) h
+by_table test of_span of_act h atom = item_holds test named 8 (omega arith) h
+by_table test of_span of_act h worded = item_holds test named 9 (omega arith) h
+by_table test of_span of_act h variable = item_holds test named 10 (omega arith) h
+by_table test of_span of_act h call = item_holds test named 11 (omega arith) h
+by_table test of_span of_act h bounds_and_body = item_holds test named 12 (omega arith) h
+by_table test of_span of_act h name_and_order = item_holds test named 13 (omega arith) h
+by_table test of_span of_act h one_name = item_holds test named 14 (omega arith) h
+by_table test of_span of_act h expr_and_name = item_holds test named 15 (omega arith) h
+by_table test of_span of_act h const_and_name = item_holds test named 16 (omega arith) h
+by_table test of_span of_act h order = item_holds test named 17 (omega arith) h
+by_table test of_span of_act h int = item_holds test named 18 (omega arith) h
+by_table test of_span of_act h const = item_holds test named 19 (omega arith) h
+by_table test of_span of_act h divisor = item_holds test named 20 (omega arith) h
+by_table test of_span of_act h name = item_holds test named 21 (omega arith) h
+by_table test of_span of_act h digits = item_holds test named 22 (omega arith) h
+by_table test of_span of_act h more_digits = item_holds test named 23 (omega arith) h
+by_table test of_span of_act h after_s = item_holds test named 24 (omega arith) h
+by_table test of_span of_act h after_p = item_holds test named 25 (omega arith) h
+by_table test of_span of_act h after_f = item_holds test named 26 (omega arith) h
+by_table test of_span of_act h after_b = item_holds test named 27 (omega arith) h
+
 pub rules_begin : (part : Symbol) → begins_as part (rules part) ≡ true
-rules_begin (span low more) = refl
-rules_begin (act a) = refl
-rules_begin blanks = refl
-rules_begin text = refl
-rules_begin expr = refl
-rules_begin more_terms = refl
-rules_begin term = refl
-rules_begin more_factors = refl
-rules_begin factor = refl
-rules_begin exponent = refl
-rules_begin atom = refl
-rules_begin worded = refl
-rules_begin variable = refl
-rules_begin call = refl
-rules_begin bounds_and_body = refl
-rules_begin name_and_order = refl
-rules_begin one_name = refl
-rules_begin expr_and_name = refl
-rules_begin const_and_name = refl
-rules_begin order = refl
-rules_begin int = refl
-rules_begin const = refl
-rules_begin divisor = refl
-rules_begin name = refl
-rules_begin digits = refl
-rules_begin more_digits = refl
-rules_begin after_s = refl
-rules_begin after_p = refl
-rules_begin after_f = refl
-rules_begin after_b = refl
+rules_begin = by_table (λ part. begins_as part (rules part)) (λ low more. refl) (λ a. refl) refl
 
 pub ways_keep : (part : Symbol) → all_keep (ways part) (follows part) ≡ true
-ways_keep (span low more) = refl
-ways_keep (act a) = refl
-ways_keep blanks = refl
-ways_keep text = refl
-ways_keep expr = refl
-ways_keep more_terms = refl
-ways_keep term = refl
-ways_keep more_factors = refl
-ways_keep factor = refl
-ways_keep exponent = refl
-ways_keep atom = refl
-ways_keep worded = refl
-ways_keep variable = refl
-ways_keep call = refl
-ways_keep bounds_and_body = refl
-ways_keep name_and_order = refl
-ways_keep one_name = refl
-ways_keep expr_and_name = refl
-ways_keep const_and_name = refl
-ways_keep order = refl
-ways_keep int = refl
-ways_keep const = refl
-ways_keep divisor = refl
-ways_keep name = refl
-ways_keep digits = refl
-ways_keep more_digits = refl
-ways_keep after_s = refl
-ways_keep after_p = refl
-ways_keep after_f = refl
-ways_keep after_b = refl
+ways_keep = by_table (λ part. all_keep (ways part) (follows part)) (λ low more. refl) (λ a. refl) refl
 
 pub ways_firm : (part : Symbol) → firm (ways part) ≡ true
-ways_firm (span low more) = refl
-ways_firm (act a) = refl
-ways_firm blanks = refl
-ways_firm text = refl
-ways_firm expr = refl
-ways_firm more_terms = refl
-ways_firm term = refl
-ways_firm more_factors = refl
-ways_firm factor = refl
-ways_firm exponent = refl
-ways_firm atom = refl
-ways_firm worded = refl
-ways_firm variable = refl
-ways_firm call = refl
-ways_firm bounds_and_body = refl
-ways_firm name_and_order = refl
-ways_firm one_name = refl
-ways_firm expr_and_name = refl
-ways_firm const_and_name = refl
-ways_firm order = refl
-ways_firm int = refl
-ways_firm const = refl
-ways_firm divisor = refl
-ways_firm name = refl
-ways_firm digits = refl
-ways_firm more_digits = refl
-ways_firm after_s = refl
-ways_firm after_p = refl
-ways_firm after_f = refl
-ways_firm after_b = refl
+ways_firm = by_table (λ part. firm (ways part)) (λ low more. refl) (λ a. refl) refl
 
 pub rules_firm : (part : Symbol) → firm (rules part) ≡ true
-rules_firm (span low more) = refl
-rules_firm (act a) = refl
-rules_firm blanks = refl
-rules_firm text = refl
-rules_firm expr = refl
-rules_firm more_terms = refl
-rules_firm term = refl
-rules_firm more_factors = refl
-rules_firm factor = refl
-rules_firm exponent = refl
-rules_firm atom = refl
-rules_firm worded = refl
-rules_firm variable = refl
-rules_firm call = refl
-rules_firm bounds_and_body = refl
-rules_firm name_and_order = refl
-rules_firm one_name = refl
-rules_firm expr_and_name = refl
-rules_firm const_and_name = refl
-rules_firm order = refl
-rules_firm int = refl
-rules_firm const = refl
-rules_firm divisor = refl
-rules_firm name = refl
-rules_firm digits = refl
-rules_firm more_digits = refl
-rules_firm after_s = refl
-rules_firm after_p = refl
-rules_firm after_f = refl
-rules_firm after_b = refl
-
-pub ways_tell : (part : Symbol) → stands part ≡ true → is_worded part ≡ false → tells (ways part) (follows part) ≡ true
-ways_tell (span low more) h k = refl
-ways_tell (act a) h k = refl
-ways_tell blanks h k = refl
-ways_tell text h k = refl
-ways_tell expr h k = refl
-ways_tell more_terms h k = refl
-ways_tell term h k = refl
-ways_tell more_factors h k = refl
-ways_tell factor h k = refl
-ways_tell exponent h k = refl
-ways_tell atom h k = refl
-ways_tell worded h k = absurd (cc)
-ways_tell variable h k = refl
-ways_tell call h k = absurd (cc)
-ways_tell bounds_and_body h k = refl
-ways_tell name_and_order h k = refl
-ways_tell one_name h k = refl
-ways_tell expr_and_name h k = refl
-ways_tell const_and_name h k = refl
-ways_tell order h k = refl
-ways_tell int h k = refl
-ways_tell const h k = refl
-ways_tell divisor h k = refl
-ways_tell name h k = refl
-ways_tell digits h k = refl
-ways_tell more_digits h k = refl
-ways_tell after_s h k = refl
-ways_tell after_p h k = refl
-ways_tell after_f h k = refl
-ways_tell after_b h k = refl
+rules_firm = by_table (λ part. firm (rules part)) (λ low more. refl) (λ a. refl) refl
 
 pub ways_lead : (part : Symbol) → all_lead (ways part) (cost part) ≡ true
-ways_lead (span low more) = refl
-ways_lead (act a) = refl
-ways_lead blanks = refl
-ways_lead text = refl
-ways_lead expr = refl
-ways_lead more_terms = refl
-ways_lead term = refl
-ways_lead more_factors = refl
-ways_lead factor = refl
-ways_lead exponent = refl
-ways_lead atom = refl
-ways_lead worded = refl
-ways_lead variable = refl
-ways_lead call = refl
-ways_lead bounds_and_body = refl
-ways_lead name_and_order = refl
-ways_lead one_name = refl
-ways_lead expr_and_name = refl
-ways_lead const_and_name = refl
-ways_lead order = refl
-ways_lead int = refl
-ways_lead const = refl
-ways_lead divisor = refl
-ways_lead name = refl
-ways_lead digits = refl
-ways_lead more_digits = refl
-ways_lead after_s = refl
-ways_lead after_p = refl
-ways_lead after_f = refl
-ways_lead after_b = refl
+ways_lead = by_table (λ part. all_lead (ways part) (cost part)) (λ low more. refl) (λ a. refl) refl
+
+pub implied : (a b : Bool) → implies a b ≡ true → a ≡ true → b ≡ true
+implied true b h e = h
+implied false b h e = absurd (cc)
+
+stands_apart : (part : Symbol) → (stands part && not (is_worded part)) ≡ true → tells (ways part) (follows part) ≡ true
+stands_apart part = implied (stands part && not (is_worded part)) (tells (ways part) (follows part))
+    (by_table (λ x. implies (stands x && not (is_worded x)) (tells (ways x) (follows x))) (λ low more. refl) (λ a. refl) refl part)
+
+first_alone : (a b : Bool) → a ≡ true → b ≡ false → (a && not b) ≡ true
+first_alone true b h k = ap not k
+first_alone false b h k = absurd (cc)
+
+pub ways_tell : (part : Symbol) → stands part ≡ true → is_worded part ≡ false → tells (ways part) (follows part) ≡ true
+ways_tell part h k = stands_apart part (first_alone (stands part) (is_worded part) h k)
 
 -- at the end each part that may be empty takes its last way
 pub ways_end : (part : Symbol) → ends part ≡ true → predict part 0 ≡ last_of (rules part)
-ways_end (span low more) h = absurd (cc)
 ways_end (act a) h = refl
 ways_end blanks h = refl
-ways_end text h = absurd (cc)
-ways_end expr h = absurd (cc)
 ways_end more_terms h = refl
-ways_end term h = absurd (cc)
 ways_end more_factors h = refl
-ways_end factor h = absurd (cc)
 ways_end exponent h = refl
-ways_end atom h = absurd (cc)
-ways_end worded h = absurd (cc)
-ways_end variable h = absurd (cc)
-ways_end call h = absurd (cc)
-ways_end bounds_and_body h = absurd (cc)
-ways_end name_and_order h = absurd (cc)
-ways_end one_name h = absurd (cc)
-ways_end expr_and_name h = absurd (cc)
-ways_end const_and_name h = absurd (cc)
 ways_end order h = refl
-ways_end int h = absurd (cc)
-ways_end const h = absurd (cc)
 ways_end divisor h = refl
-ways_end name h = absurd (cc)
-ways_end digits h = absurd (cc)
 ways_end more_digits h = refl
 ways_end after_s h = refl
 ways_end after_p h = refl
 ways_end after_f h = refl
 ways_end after_b h = refl
+ways_end part h = absurd (cc)

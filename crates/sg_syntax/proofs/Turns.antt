@@ -5,7 +5,8 @@
 use Rattle.std.specs.Prelude.{◌≡◌, ℕ, ◌<◌, List, [], ◌∷◌, ◌++◌, false}
 use Rattle.std.proofs.Common.{refl, sym, ap, ◌∙◌, arith}
 use Rattle.std.proofs.lemmas.List.{reverse-append, map-append}
-use Rattle.sg_spec.specs.Grammar.{Symbol as Part, is_act}
+use Rattle.sg_syntax.specs.Table.{Symbol as Part}
+use Rattle.sg_syntax.proofs.Deriving.{is_act}
 use Rattle.sg_spec.specs.Syntax.{State}
 use Rattle.sg_syntax.specs.Stack.{predict, lead, opened, acted}
 use Rattle.sg_syntax.specs.Parts.{part_of, parts_of}

@@ -7,11 +7,13 @@
 use Rattle.std.specs.Prelude.{◌≡◌, ℕ, ◌+◌, ◌≤◌, List, [], ◌∷◌, ◌++◌, Bool, true, false, cond, not, ◌&&◌, ◌≢◌, ◌⊎◌, codes}
 use Rattle.std.proofs.Common.{refl, sym, ◌∙◌, arith, subst, inl, inr}
 use Rattle.std.proofs.lemmas.Bool.Decides.{nat_tests}
-use Rattle.sg_spec.specs.Grammar.{Action, letter, use_name, make_sum, make_product, make_factorial, make_binomial, make_power, Symbol, span, act, blanks, worded, variable, call, bounds_and_body, name_and_order, one_name, expr_and_name, const_and_name, token, rules, IsOneOf, first, later, Spells, nothing, one_byte, by_rule, is_act, Builds, none_left, eats, acts, opens_by}
+use Rattle.sg_spec.specs.Grammar.{Action, letter, use_name, make_sum, make_product, make_factorial, make_binomial, make_power, IsOneOf, first, later}
+use Rattle.sg_syntax.specs.Table.{Symbol, span, act, blanks, worded, variable, call, bounds_and_body, name_and_order, one_name, expr_and_name, const_and_name, token, rules}
+use Rattle.sg_syntax.proofs.Deriving.{Spells, nothing, one_byte, by_rule, is_act, Builds, none_left, eats, acts, opens_by}
 use Rattle.sg_syntax.specs.Ranges.{Range, from, has}
 use Rattle.sg_syntax.specs.Stack.{firsts, ends, ways, opens, may_end, first_fit, predict}
 use Rattle.sg_syntax.proofs.Ranges.{covers, apart, both_left, both_right, has-covers, has-apart, has-append, has-append_left, has-append_right}
-use Rattle.sg_syntax.proofs.Tables.{follows, stands, is_span, is_worded, keeps, implies, begins_as, all_keep, apart_from, tells, firm, is_empty, last_of, rules_begin, ways_keep, ways_firm, rules_firm, ways_tell, ways_end}
+use Rattle.sg_syntax.proofs.Tables.{follows, stands, is_span, is_worded, keeps, implies, implied, begins_as, all_keep, apart_from, tells, firm, is_empty, last_of, rules_begin, ways_keep, ways_firm, rules_firm, ways_tell, ways_end}
 
 pub data Good : List Symbol → Type 0 where
   bottom : Good []
@@ -48,10 +50,6 @@ head_here false r s b h = h
 head_after : (e : Bool) (r s : List Range) (b : ℕ) → e ≡ true → has s b ≡ true → has (cond e (r ++ s) r) b ≡ true
 head_after true r s b e h = has-append_right r s b h
 head_after false r s b e h = absurd (cc)
-
-implied : (a b : Bool) → implies a b ≡ true → a ≡ true → b ≡ true
-implied true b h t = h
-implied false b h t = absurd (cc)
 
 way_begins : (part : Symbol) (all : List (List Symbol)) (way : List Symbol) → IsOneOf way all → begins_as part all ≡ true
     → (covers (opens way []) (firsts part) && implies (may_end way) (ends part)) ≡ true

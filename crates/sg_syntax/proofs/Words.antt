@@ -5,7 +5,9 @@
 use Rattle.std.specs.Prelude.{ℕ, List, [], ◌∷◌, ◌++◌, codes}
 use Rattle.std.proofs.Common.{arith, append_assoc}
 use Rattle.std.proofs.lemmas.List.{append-nil}
-use Rattle.sg_spec.specs.Grammar.{mark, letter, begin_number, digit, use_number, use_name, make_factorial, make_harmonic, Action, Symbol, span, act, blanks, text, expr, more_terms, term, more_factors, factor, exponent, atom, worded, variable, call, bounds_and_body, name_and_order, one_name, expr_and_name, const_and_name, order, int, const, divisor, name, digits, more_digits, after_s, after_p, after_f, after_b, token, rules, IsOneOf, first, later, Spells, nothing, one_byte, by_rule}
+use Rattle.sg_spec.specs.Grammar.{mark, letter, begin_number, digit, use_number, use_name, make_factorial, make_harmonic, Action, IsOneOf, first, later}
+use Rattle.sg_syntax.specs.Table.{Symbol, span, act, blanks, text, expr, more_terms, term, more_factors, factor, exponent, atom, worded, variable, call, bounds_and_body, name_and_order, one_name, expr_and_name, const_and_name, order, int, const, divisor, name, digits, more_digits, after_s, after_p, after_f, after_b, token, rules}
+use Rattle.sg_syntax.proofs.Deriving.{Spells, nothing, one_byte, by_rule}
 
 pub spells_join : {st : List Symbol} {u : List ℕ} (more : List Symbol) (v : List ℕ) → Spells st u → Spells more v → Spells (st ++ more) (u ++ v)
 spells_join more v nothing t = t

@@ -1,4 +1,5 @@
 pub mod Ranges
+pub mod Table
 pub mod Stack
 pub mod Parts
 pub mod Drafts

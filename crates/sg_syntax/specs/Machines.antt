@@ -5,7 +5,8 @@
 --   HasCappedTree          the placed tree of a text, with capped numbers
 --   IsParseFault           why no tree was made
 use Rattle.std.specs.Prelude.{◌≡◌, ℕ, List, [], ◌∷◌, Option, Some, None}
-use Rattle.sg_spec.specs.Grammar.{Symbol as Part, span, text as start, Builds, IsSyntaxFault}
+use Rattle.sg_spec.specs.Grammar.{text as start, Builds, IsSyntaxFault}
+use Rattle.sg_syntax.specs.Table.{Symbol as Part, span}
 use Rattle.sg_spec.specs.Syntax.{Placed, State, at_start, after_byte, top_tree}
 use Rattle.sg_syntax.specs.Stack.{next, lead, acted}
 use Rattle.sg_syntax.specs.Parts.{parts_of}

@@ -2,7 +2,8 @@
 --   action_of, part_of     an action, a part
 --   parts_of               the parts, the next one first
 use Rattle.std.specs.Prelude.{List, map, reverse}
-use Rattle.sg_spec.specs.Grammar.{Action as Deed, mark, letter, minus_sign, begin_number, digit, use_number, use_name, negate, add_up, subtract, multiply, divide, raise, make_sum, make_product, make_harmonic, make_harmonic_of_order, make_factorial, make_binomial, make_power, Symbol as Part, span, act, blanks, text, expr, more_terms, term, more_factors, factor, exponent, atom, worded, variable, bounds_and_body, name_and_order, one_name, expr_and_name, const_and_name, order, int, const, divisor, name, digits, more_digits, after_s, after_p, after_f, after_b}
+use Rattle.sg_spec.specs.Grammar.{Action as Deed, mark, letter, minus_sign, begin_number, digit, use_number, use_name, negate, add_up, subtract, multiply, divide, raise, make_sum, make_product, make_harmonic, make_harmonic_of_order, make_factorial, make_binomial, make_power}
+use Rattle.sg_syntax.specs.Table.{Symbol as Part, span, act, blanks, text, expr, more_terms, term, more_factors, factor, exponent, atom, worded, variable, bounds_and_body, name_and_order, one_name, expr_and_name, const_and_name, order, int, const, divisor, name, digits, more_digits, after_s, after_p, after_f, after_b}
 use Rattle.sg_syntax.specs.declared.symbol.Action.{Action}
 use Rattle.sg_syntax.specs.declared.symbol.Action.TheVariants.{Mark, Letter, MinusSign, BeginNumber, Digit, UseNumber, UseName, Negate, AddUp, Subtract, Multiply, Divide, Raise, MakeSum, MakeProduct, MakeHarmonic, MakeHarmonicOfOrder, MakeFactorial, MakeBinomial, MakePower}
 use Rattle.sg_syntax.specs.declared.symbol.Symbol.{Symbol}

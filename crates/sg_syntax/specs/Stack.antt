@@ -11,7 +11,8 @@
 --   stack_after, state_after     the stack and the state after them
 --   finished        the state after the actions that are left at the end
 use Rattle.std.specs.Prelude.{ℕ, zero, suc, ◌+◌, List, [], ◌∷◌, ◌++◌, Bool, true, false, cond, ◌&&◌, codes}
-use Rattle.sg_spec.specs.Grammar.{Action, letter, use_name, Symbol, span, act, blanks, text, expr, more_terms, term, more_factors, factor, exponent, atom, worded, variable, call, bounds_and_body, name_and_order, one_name, expr_and_name, const_and_name, order, int, const, divisor, name, digits, more_digits, after_s, after_p, after_f, after_b, token, rules}
+use Rattle.sg_spec.specs.Grammar.{Action, letter, use_name}
+use Rattle.sg_syntax.specs.Table.{Symbol, span, act, blanks, text, expr, more_terms, term, more_factors, factor, exponent, atom, worded, variable, call, bounds_and_body, name_and_order, one_name, expr_and_name, const_and_name, order, int, const, divisor, name, digits, more_digits, after_s, after_p, after_f, after_b, token, rules}
 use Rattle.sg_spec.specs.Syntax.{rest}
 use Rattle.sg_syntax.specs.Ranges.{Range, from, in_range, has}
 

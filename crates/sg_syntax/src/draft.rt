@@ -19,41 +19,6 @@ pub struct Draft {
     trees: Vec<Box<Node>>,
 }
 
-fn one_more_digit(value: Option<u128>, digit: u8) -> Option<u128>
-    ensures { value_of result ≡ min (value_of value * 10 + digit) (2 ^ 128) }
-{
-    match value {
-        Some(v) => match v.checked_mul(10) {
-            Some(tens) => tens.checked_add(digit as u128),
-            None => None,
-        },
-        None => None,
-    }
-}
-
-/// What stands for the newest tree where there is none.
-#[inline(never)]
-fn no_tree(alloc: Global) -> Result<Box<Node>, AllocError>
-    ensures { IfOk result (λ t. placed_of t.value ≡ top_tree []) }
-{
-    Ok(Box::new(alloc, Node::Number(0, 0))?)
-}
-
-/// The tree of a number.
-#[inline(never)]
-fn number_tree(alloc: Global, n: Numeral) -> Result<Node, AllocError>
-    ensures { IfOk result (λ t. placed_of t ≡ number (numeral_spot n)) }
-{
-    let small = match n.value {
-        Some(v) => u64::try_from(v).ok(),
-        None => None,
-    };
-    match small {
-        Some(v) => Ok(Node::Number(n.at, v)),
-        None => Ok(Node::LargeNumber(Box::new(alloc, n)?)),
-    }
-}
-
 impl Draft {
     /// Nothing is read yet.
     pub fn new(alloc: Global) -> Draft
@@ -134,7 +99,8 @@ impl Draft {
     }
 
     fn set_mark(&mut self, value: u8) -> Result<(), AllocError>
-        ensures { OnOk result (draft_of self.new ≡ with_mark (record { place = (top_spot (draft_of self.old).marks).place; value = value }) (without_mark (draft_of self.old))) }
+        ensures { OnOk result (draft_of self.new ≡ with_mark (record { place = (top_spot (draft_of self.old).marks).place; value = value })
+            (without_mark (draft_of self.old))) }
     {
         let m = self.pop_mark();
         self.push_mark(Mark { at: m.at, value })
@@ -345,5 +311,40 @@ impl Draft {
             Action::MakeBinomial => self.make_binomial(alloc),
             Action::MakePower => self.make_power(alloc),
         }
+    }
+}
+
+/// What stands for the newest tree where there is none.
+#[inline(never)]
+fn no_tree(alloc: Global) -> Result<Box<Node>, AllocError>
+    ensures { IfOk result (λ t. placed_of t.value ≡ top_tree []) }
+{
+    Ok(Box::new(alloc, Node::Number(0, 0))?)
+}
+
+fn one_more_digit(value: Option<u128>, digit: u8) -> Option<u128>
+    ensures { value_of result ≡ min (value_of value * 10 + digit) (2 ^ 128) }
+{
+    match value {
+        Some(v) => match v.checked_mul(10) {
+            Some(tens) => tens.checked_add(digit as u128),
+            None => None,
+        },
+        None => None,
+    }
+}
+
+/// The tree of a number.
+#[inline(never)]
+fn number_tree(alloc: Global, n: Numeral) -> Result<Node, AllocError>
+    ensures { IfOk result (λ t. placed_of t ≡ number (numeral_spot n)) }
+{
+    let small = match n.value {
+        Some(v) => u64::try_from(v).ok(),
+        None => None,
+    };
+    match small {
+        Some(v) => Ok(Node::Number(n.at, v)),
+        None => Ok(Node::LargeNumber(Box::new(alloc, n)?)),
     }
 }

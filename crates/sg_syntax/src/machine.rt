@@ -1,6 +1,6 @@
 //! A machine with one stack of symbols, stepped byte by byte.
 ghost use Rattle.std.specs.Prelude.{◌≡◌, ◌++◌, ◌-◌, ◌<◌, ◌^◌, [], ◌∷◌, false, length, IsTrue, OnOk, IfOk, IfErr};
-ghost use Rattle.sg_spec.specs.Grammar.{text as start};
+ghost use Rattle.sg_syntax.specs.Table.{text as start};
 ghost use Rattle.sg_spec.specs.Syntax.{at_start, after_byte};
 ghost use Rattle.sg_syntax.specs.Stack.{lead, opened, acted, accepts, next, finished};
 ghost use Rattle.sg_syntax.specs.Drafts.{placed_of, capped_action};
@@ -13,21 +13,33 @@ use crate::symbol::Symbol;
 use crate::ways::way;
 use std::alloc::{AllocError, Global};
 
+/// The tree of a text, with its places. Errors: the place at which the text stops being one, and want of memory.
+pub fn parse(alloc: Global, text: &[u8]) -> Result<Box<Node>, SyntaxFault>
+    requires { length text.now < 2 ^ 32 }
+    ensures node { IfOk result (λ t. HasCappedTree text.now (placed_of t.value)) }
+    ensures fault { IfErr result (λ e. IsParseFault text.now e) }
+{
+    let mut machine = Machine::new(alloc)?;
+    for i in 0..text.len() {
+        if !machine.advance(alloc, text[i])? {
+            return Err(SyntaxFault::Syntax { at: i as u32 });
+        }
+    }
+    if machine.finish(alloc)? {
+        let tree = machine.draft.pop_tree(alloc)?;
+        Ok(tree)
+    } else {
+        Err(SyntaxFault::Syntax {
+            at: text.len() as u32,
+        })
+    }
+}
+
 /// The parts that are still to come, the next one last, and what was made so far.
 #[derive(Drop)]
 pub struct Machine {
     stack: Vec<Symbol>,
     draft: Draft,
-}
-
-/// Puts these parts on top.
-fn put(stack: &mut Vec<Symbol>, parts: &[Symbol]) -> Result<(), AllocError>
-    ensures { OnOk result (stack.new.items ≡ stack.old.items ++ parts.now) }
-{
-    for i in 0..parts.len() {
-        stack.push(parts[i])?;
-    }
-    Ok(())
 }
 
 impl Machine {
@@ -90,26 +102,14 @@ impl Machine {
     }
 }
 
-/// The tree of a text, with its places. Errors: the place at which the text stops being one, and want of memory.
-pub fn parse(alloc: Global, text: &[u8]) -> Result<Box<Node>, SyntaxFault>
-    requires { length text.now < 2 ^ 32 }
-    ensures node { IfOk result (λ t. HasCappedTree text.now (placed_of t.value)) }
-    ensures fault { IfErr result (λ e. IsParseFault text.now e) }
+/// Puts these parts on top.
+fn put(stack: &mut Vec<Symbol>, parts: &[Symbol]) -> Result<(), AllocError>
+    ensures { OnOk result (stack.new.items ≡ stack.old.items ++ parts.now) }
 {
-    let mut machine = Machine::new(alloc)?;
-    for i in 0..text.len() {
-        if !machine.advance(alloc, text[i])? {
-            return Err(SyntaxFault::Syntax { at: i as u32 });
-        }
+    for i in 0..parts.len() {
+        stack.push(parts[i])?;
     }
-    if machine.finish(alloc)? {
-        let tree = machine.draft.pop_tree(alloc)?;
-        Ok(tree)
-    } else {
-        Err(SyntaxFault::Syntax {
-            at: text.len() as u32,
-        })
-    }
+    Ok(())
 }
 
 #[cfg(test)]

@@ -1,12 +1,99 @@
 //! For each part of the grammar the way that the next byte tells, its last part first. The ways of rare parts stay calls: else
 //! the machine works each of them out for every byte.
 ghost use Rattle.std.specs.Prelude.{◌≡◌};
-ghost use Rattle.sg_spec.specs.Grammar.{blanks, expr, more_terms, more_factors, exponent, atom, worded, order, int, const, divisor, more_digits, after_s, after_p, after_f, after_b};
+ghost use Rattle.sg_syntax.specs.Table.{blanks, expr, more_terms, more_factors, exponent, atom, worded, order, int, const, divisor, more_digits, after_s, after_p, after_f, after_b};
 ghost use Rattle.sg_syntax.specs.Stack.{predict};
 ghost use Rattle.sg_syntax.specs.Parts.{part_of, parts_of};
 
 use crate::symbol::Action;
 use crate::symbol::Symbol::{self, *};
+
+/// The way of this part before this byte; at the end of a text the way before the byte 0.
+pub fn way(part: Symbol, byte: u8) -> &'static [Symbol]
+    ensures { parts_of result.now ≡ predict (part_of part) byte }
+{
+    match part {
+        Span(_, _) | Act(_) => &[],
+        Blanks => blanks_way(byte),
+        Text => &[Expr, Blanks],
+        Expr => expr_way(byte),
+        MoreTerms => more_terms_way(byte),
+        Term => &[MoreFactors, Factor],
+        MoreFactors => more_factors_way(byte),
+        Factor => &[Exponent, Atom],
+        Exponent => exponent_way(byte),
+        Atom => atom_way(byte),
+        Worded => worded_way(byte),
+        Variable => &[
+            Blanks,
+            Act(Action::UseName),
+            Act(Action::Letter),
+            Span(b'a', 25),
+        ],
+        BoundsAndBody => &[
+            Blanks,
+            Span(b')', 0),
+            Expr,
+            Blanks,
+            Span(b',', 0),
+            Name,
+            Blanks,
+            Span(b',', 0),
+            Int,
+            Act(Action::Mark),
+            Blanks,
+            Span(b',', 0),
+            Name,
+            Blanks,
+            Span(b'(', 0),
+        ],
+        NameAndOrder => &[Blanks, Span(b')', 0), Order, Name, Blanks, Span(b'(', 0)],
+        OneName => &[Blanks, Span(b')', 0), Name, Blanks, Span(b'(', 0)],
+        ExprAndName => &[
+            Blanks,
+            Span(b')', 0),
+            Name,
+            Blanks,
+            Span(b',', 0),
+            Expr,
+            Act(Action::Mark),
+            Blanks,
+            Span(b'(', 0),
+        ],
+        ConstAndName => &[
+            Blanks,
+            Span(b')', 0),
+            Name,
+            Blanks,
+            Span(b',', 0),
+            Const,
+            Blanks,
+            Span(b'(', 0),
+        ],
+        Order => order_way(byte),
+        Int => int_way(byte),
+        Const => const_way(byte),
+        Divisor => divisor_way(byte),
+        Name => &[
+            Blanks,
+            Act(Action::Letter),
+            Span(b'a', 25),
+            Act(Action::Mark),
+        ],
+        Digits => &[
+            Blanks,
+            MoreDigits,
+            Act(Action::Digit),
+            Span(b'0', 9),
+            Act(Action::BeginNumber),
+        ],
+        MoreDigits => more_digits_way(byte),
+        AfterS => after_s_way(byte),
+        AfterP => after_p_way(byte),
+        AfterF => after_f_way(byte),
+        AfterB => after_b_way(byte),
+    }
+}
 
 fn blanks_way(byte: u8) -> &'static [Symbol]
     ensures { parts_of result.now ≡ predict blanks byte }
@@ -243,92 +330,5 @@ fn after_b_way(byte: u8) -> &'static [Symbol]
             Span(b'i', 0),
         ],
         _ => &[Blanks, Act(Action::UseName), Act(Action::Letter)],
-    }
-}
-
-/// The way of this part before this byte; at the end of a text the way before the byte 0.
-pub fn way(part: Symbol, byte: u8) -> &'static [Symbol]
-    ensures { parts_of result.now ≡ predict (part_of part) byte }
-{
-    match part {
-        Span(_, _) | Act(_) => &[],
-        Blanks => blanks_way(byte),
-        Text => &[Expr, Blanks],
-        Expr => expr_way(byte),
-        MoreTerms => more_terms_way(byte),
-        Term => &[MoreFactors, Factor],
-        MoreFactors => more_factors_way(byte),
-        Factor => &[Exponent, Atom],
-        Exponent => exponent_way(byte),
-        Atom => atom_way(byte),
-        Worded => worded_way(byte),
-        Variable => &[
-            Blanks,
-            Act(Action::UseName),
-            Act(Action::Letter),
-            Span(b'a', 25),
-        ],
-        BoundsAndBody => &[
-            Blanks,
-            Span(b')', 0),
-            Expr,
-            Blanks,
-            Span(b',', 0),
-            Name,
-            Blanks,
-            Span(b',', 0),
-            Int,
-            Act(Action::Mark),
-            Blanks,
-            Span(b',', 0),
-            Name,
-            Blanks,
-            Span(b'(', 0),
-        ],
-        NameAndOrder => &[Blanks, Span(b')', 0), Order, Name, Blanks, Span(b'(', 0)],
-        OneName => &[Blanks, Span(b')', 0), Name, Blanks, Span(b'(', 0)],
-        ExprAndName => &[
-            Blanks,
-            Span(b')', 0),
-            Name,
-            Blanks,
-            Span(b',', 0),
-            Expr,
-            Act(Action::Mark),
-            Blanks,
-            Span(b'(', 0),
-        ],
-        ConstAndName => &[
-            Blanks,
-            Span(b')', 0),
-            Name,
-            Blanks,
-            Span(b',', 0),
-            Const,
-            Blanks,
-            Span(b'(', 0),
-        ],
-        Order => order_way(byte),
-        Int => int_way(byte),
-        Const => const_way(byte),
-        Divisor => divisor_way(byte),
-        Name => &[
-            Blanks,
-            Act(Action::Letter),
-            Span(b'a', 25),
-            Act(Action::Mark),
-        ],
-        Digits => &[
-            Blanks,
-            MoreDigits,
-            Act(Action::Digit),
-            Span(b'0', 9),
-            Act(Action::BeginNumber),
-        ],
-        MoreDigits => more_digits_way(byte),
-        AfterS => after_s_way(byte),
-        AfterP => after_p_way(byte),
-        AfterF => after_f_way(byte),
-        AfterB => after_b_way(byte),
     }
 }

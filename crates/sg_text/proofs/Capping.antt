@@ -7,14 +7,16 @@
 use Rattle.std.specs.Prelude.{◌≡◌, ◌==◌, ℕ, ◌+◌, ◌-◌, ◌*◌, ◌^◌, ◌≤◌, ◌<◌, min, Bool, true, List, [], ◌∷◌, map}
 use Rattle.std.proofs.Common.{refl, sym, ap, ◌∙◌, subst, arith}
 use Rattle.std.proofs.lemmas.Bool.Decides.{nat_tests}
-use Rattle.sg_spec.specs.Grammar.{Action, mark, letter, minus_sign, begin_number, digit, use_number, use_name, negate, add_up, subtract, multiply, divide, raise, make_sum, make_product, make_harmonic, make_harmonic_of_order, make_factorial, make_binomial, make_power, Symbol, text, Builds, none_left, eats, acts, opens_by}
+use Rattle.sg_spec.specs.Grammar.{Action, mark, letter, minus_sign, begin_number, digit, use_number, use_name, negate, add_up, subtract, multiply, divide, raise, make_sum, make_product, make_harmonic, make_harmonic_of_order, make_factorial, make_binomial, make_power, Symbol, Builds, none_left, eats, acts, opens_by}
 use Rattle.sg_spec.specs.Syntax.{Spot, Placed, number, named, negated, added, subtracted, multiplied, divided, raised, sum_call, product_call, harmonic, harmonic_of_order, factorial, binomial, constant_power, State, at_start, after_byte, after_action, top_spot, top_tree, rest, with_digit}
-use Rattle.sg_spec.specs.Reading.{numeral_fault, Limits, fault_unless, is_small, is_polynomial, is_divisor, is_constant, inside, faults, HasTree}
+use Rattle.sg_spec.specs.Reading.{numeral_fault, Limits, fault_unless, is_small, is_divisor, is_constant, inside, faults, HasTree}
 use Rattle.sg_syntax.specs.Drafts.{capped, with_capped_digit, capped_action}
 use Rattle.sg_syntax.specs.Machines.{HasCappedTree}
+use Rattle.sg_syntax.proofs.Balance.{has_tree}
+use Rattle.sg_text.specs.Tests.{polynomial_in, divisor_in, constant_in}
+use Rattle.sg_text.proofs.Tested.{divisor_in-is, constant_in-is}
 use Rattle.sg_text.specs.Fits.{FitsTree}
-use Rattle.sg_syntax.proofs.Way.{spelled}
-use Rattle.sg_syntax.proofs.Runs.{built_is, some_state, good_start}
+use Rattle.sg_syntax.proofs.Same.{spelled, some_state, made_is}
 
 abbrev pub cap_spot : Spot → Spot
 cap_spot s = record { place = s.place; value = capped s.value }
@@ -93,9 +95,9 @@ Builds-cap (opens_by way p i s) = opens_by way p i (Builds-cap s)
 pub uncapped : (w : List ℕ) (t : Placed) → HasCappedTree w t → (u : Placed) × HasTree w u × (t ≡ cap_tree u)
 uncapped w t h =
     let (y, s) = some_state after_byte after_action (spelled h.built) at_start in
-    let (r, e, f) = built_is after_byte capped_action w (text ∷ []) at_start good_start h.built in
-    let (q, d, g) = built_is after_byte capped_action w (text ∷ []) at_start good_start (Builds-cap s) in
-    (top_tree y.trees, record { end = y; built = s; on_top = refl }, sym h.on_top ∙ (ap (λ (z : State). top_tree z.trees) (sym f ∙ g) ∙ top_tree-cap y.trees))
+    let f = made_is after_byte capped_action w h.built in
+    let g = made_is after_byte capped_action w (Builds-cap s) in
+    (top_tree y.trees, has_tree w y s, sym h.on_top ∙ (ap (λ (z : State). top_tree z.trees) (sym f ∙ g) ∙ top_tree-cap y.trees))
 
 -- tests of numbers that capping doesn't change
 pub record IsSteady (limits : Limits) : Type 0 where
@@ -108,35 +110,41 @@ small-cap n = grind (arith, nat_tests)
 zero-cap : (n : ℕ) → (capped n == 0) ≡ (n == 0)
 zero-cap n = grind (arith, nat_tests)
 
-polynomial-cap : (names : List ℕ) (t : Placed) → is_polynomial names (cap_tree t) ≡ is_polynomial names t
-polynomial-cap names (number s) = refl
-polynomial-cap names (named s) = refl
-polynomial-cap names (negated x) = polynomial-cap names x
-polynomial-cap names (added x y) = cc (polynomial-cap names x, polynomial-cap names y)
-polynomial-cap names (subtracted x y) = cc (polynomial-cap names x, polynomial-cap names y)
-polynomial-cap names (multiplied x y) = cc (polynomial-cap names x, polynomial-cap names y)
-polynomial-cap names (raised x e) = polynomial-cap names x
-polynomial-cap names t = refl
+polynomial_in-cap : (names : List ℕ) (t : Placed) → polynomial_in names (cap_tree t) ≡ polynomial_in names t
+polynomial_in-cap names (number s) = refl
+polynomial_in-cap names (named s) = refl
+polynomial_in-cap names (negated x) = polynomial_in-cap names x
+polynomial_in-cap names (added x y) = cc (polynomial_in-cap names x, polynomial_in-cap names y)
+polynomial_in-cap names (subtracted x y) = cc (polynomial_in-cap names x, polynomial_in-cap names y)
+polynomial_in-cap names (multiplied x y) = cc (polynomial_in-cap names x, polynomial_in-cap names y)
+polynomial_in-cap names (raised x e) = polynomial_in-cap names x
+polynomial_in-cap names t = refl
+
+divisor_in-cap : (names : List ℕ) (t : Placed) → divisor_in names (cap_tree t) ≡ divisor_in names t
+divisor_in-cap names (number s) = refl
+divisor_in-cap names (named s) = refl
+divisor_in-cap names (negated x) = divisor_in-cap names x
+divisor_in-cap names (added x y) = cc (polynomial_in-cap names x, polynomial_in-cap names y)
+divisor_in-cap names (subtracted x y) = cc (polynomial_in-cap names x, polynomial_in-cap names y)
+divisor_in-cap names (multiplied x y) = cc (divisor_in-cap names x, divisor_in-cap names y)
+divisor_in-cap names (raised x e) = divisor_in-cap names x
+divisor_in-cap names t = refl
+
+constant_in-cap : (names : List ℕ) (t : Placed) → constant_in names (cap_tree t) ≡ constant_in names t
+constant_in-cap names (number s) = refl
+constant_in-cap names (named s) = refl
+constant_in-cap names (negated x) = constant_in-cap names x
+constant_in-cap names (added x y) = cc (constant_in-cap names x, constant_in-cap names y)
+constant_in-cap names (subtracted x y) = cc (constant_in-cap names x, constant_in-cap names y)
+constant_in-cap names (multiplied x y) = cc (constant_in-cap names x, constant_in-cap names y)
+constant_in-cap names (raised x e) = constant_in-cap names x
+constant_in-cap names t = refl
 
 divisor-cap : (names : List ℕ) (t : Placed) → is_divisor names (cap_tree t) ≡ is_divisor names t
-divisor-cap names (number s) = refl
-divisor-cap names (named s) = refl
-divisor-cap names (negated x) = divisor-cap names x
-divisor-cap names (added x y) = cc (polynomial-cap names x, polynomial-cap names y)
-divisor-cap names (subtracted x y) = cc (polynomial-cap names x, polynomial-cap names y)
-divisor-cap names (multiplied x y) = cc (divisor-cap names x, divisor-cap names y)
-divisor-cap names (raised x e) = divisor-cap names x
-divisor-cap names t = refl
+divisor-cap names t = sym (divisor_in-is names (cap_tree t)) ∙ (divisor_in-cap names t ∙ divisor_in-is names t)
 
 constant-cap : (names : List ℕ) (t : Placed) → is_constant names (cap_tree t) ≡ is_constant names t
-constant-cap names (number s) = refl
-constant-cap names (named s) = refl
-constant-cap names (negated x) = constant-cap names x
-constant-cap names (added x y) = cc (constant-cap names x, constant-cap names y)
-constant-cap names (subtracted x y) = cc (constant-cap names x, constant-cap names y)
-constant-cap names (multiplied x y) = cc (constant-cap names x, constant-cap names y)
-constant-cap names (raised x e) = constant-cap names x
-constant-cap names t = refl
+constant-cap names t = sym (constant_in-is names (cap_tree t)) ∙ (constant_in-cap names t ∙ constant_in-is names t)
 
 pub faults-cap : (limits : Limits) → IsSteady limits → (in_product : Bool) (names : List ℕ) (t : Placed) → faults limits in_product names (cap_tree t) ≡ faults limits in_product names t
 faults-cap limits h p names (number s) = ap (λ q. fault_unless q numeral_fault s.place) (h.numeral s.value)

@@ -14,3 +14,4 @@ pub mod PrintCosts
 pub mod PrintForms
 pub mod PrintFewest
 pub mod PrintBlanks
+pub mod Tested

@@ -9,9 +9,9 @@
 --   each_way    an estimate before a part is one before each way of writing it
 --   owed        a text pays for its tree
 use Rattle.std.specs.Prelude.{◌≡◌, ◌==◌, ℕ, ◌+◌, ◌-◌, ◌≤◌, Bool, true, false, cond, ◌&&◌, List, [], ◌∷◌, ◌++◌, codes}
-use Rattle.std.proofs.Common.{refl, sym, subst, arith}
+use Rattle.std.proofs.Common.{refl, sym, ap, subst, arith}
 use Rattle.std.proofs.lemmas.Bool.Decides.{nat_tests}
-use Rattle.sg_spec.specs.Grammar.{Action, mark, letter, minus_sign, digit, use_number, negate, add_up, subtract, multiply, divide, raise, make_sum, make_product, make_harmonic_of_order, make_factorial, make_binomial, make_power, Symbol, span, act, blanks, text, expr, more_terms, term, more_factors, factor, exponent, atom, worded, variable, call, bounds_and_body, name_and_order, one_name, expr_and_name, const_and_name, order, int, const, divisor, name, digits, more_digits, after_s, after_p, after_f, after_b, token, rules, IsOneOf, first, later, is_act, Builds, none_left, eats, acts, opens_by}
+use Rattle.sg_spec.specs.Grammar.{Action, mark, letter, minus_sign, digit, use_number, negate, add_up, subtract, multiply, divide, raise, make_sum, make_product, make_harmonic_of_order, make_factorial, make_binomial, make_power, Symbol, span, act, blanks, text, expr, more_terms, term, more_factors, factor, exponent, atom, worded, variable, call, bounds_and_body, name_and_order, one_name, expr_and_name, const_and_name, order, int, const, divisor, name, digits, more_digits, token, rules, IsOneOf, first, later, is_act, Builds, none_left, eats, acts, opens_by}
 use Rattle.sg_spec.specs.Syntax.{Spot, Placed, number, named, negated, added, subtracted, multiplied, divided, raised, sum_call, product_call, harmonic, harmonic_of_order, factorial, binomial, constant_power, State, after_byte, after_action, top_spot, second, third, fourth, top_tree, rest}
 use Rattle.sg_spec.specs.Reading.{HasTree}
 use Rattle.sg_text.specs.declared.printing.Level.{Level}
@@ -57,7 +57,6 @@ pub data Effect : Type 0 where
   does : Action → Effect
   pushes : (Placed → ℕ) → Effect
   turns : (Placed → ℕ) → (Placed → ℕ) → Effect
-  never : Effect
 
 abbrev pub Each : List (List Symbol) → (List Symbol → Type 0) → Type 0
 Each [] P = Unit {0}
@@ -100,7 +99,6 @@ module _ (m : Model) where
   effect name = quiet
   effect digits = quiet
   effect more_digits = quiet
-  effect part = never
 
   abbrev Holds : Effect → Estimate → Estimate → Type 0
   Holds quiet f g = (ts : List Placed) → g ts ≤ f ts
@@ -108,7 +106,6 @@ module _ (m : Model) where
   Holds (does a) f g = (x : State) → g (after_action a x).trees ≤ f x.trees
   Holds (pushes c) f g = (ts : List Placed) → g ts ≤ c (top_tree ts) + f (rest ts)
   Holds (turns c d) f g = (b : Estimate) × ((ts : List Placed) → g ts ≤ d (top_tree ts) + b (rest ts)) × ((ts : List Placed) → c (top_tree ts) + b (rest ts) ≤ f ts)
-  Holds never f g = ⊥
 
   abbrev Typed : List Symbol → Estimate → Type 0
   Typed [] f = (ts : List Placed) → m.at Sum (top_tree ts) ≤ f ts
@@ -120,7 +117,6 @@ module _ (m : Model) where
   weaker_hold (does a) f h g le k = λ x. (let c = le x.trees in let b = k x in omega arith)
   weaker_hold (pushes c) f h g le k = λ ts. (let a = le (rest ts) in let b = k ts in omega arith)
   weaker_hold (turns c d) f h g le (b, up, low) = (b, up, λ ts. (let a = le ts in let k = low ts in omega arith))
-  weaker_hold never f h g le k = k
 
   weaker : (parts : List Symbol) (f h : Estimate) → ((ts : List Placed) → f ts ≤ h ts) → Typed parts f → Typed parts h
   weaker [] f h le t = λ ts. (let a = le ts in let b = t ts in omega arith)
@@ -418,10 +414,6 @@ module _ (m : Model) where
   each_way name ps f n (g, t, c) = each_name ps f (weaker ps g f c t)
   each_way digits ps f n (g, t, c) = each_digits ps f (weaker ps g f c t)
   each_way more_digits ps f n (g, t, c) = each_more_digits ps f (weaker ps g f c t)
-  each_way after_s ps f n (g, t, c) = absurd c
-  each_way after_p ps f n (g, t, c) = absurd c
-  each_way after_f ps f n (g, t, c) = absurd c
-  each_way after_b ps f n (g, t, c) = absurd c
 
   -- a byte pays, if it closes a parenthesis
   byte_pays : (low more b : ℕ) (w : List ℕ) (f g : Estimate) (ts : List Placed) (owed : ℕ) → low ≤ b → b ≤ low + more → (q : Bool) → ((low == 41) && (more == 0)) ≡ q
@@ -449,4 +441,4 @@ module _ (m : Model) where
       let end : Estimate = λ ts. m.at Sum (top_tree ts) in
       let typed : Typed (text ∷ []) (λ ts. 0) = (end, same end, λ ts. omega arith) in
       let k = owed_by h.built (λ ts. 0) typed in
-      subst (λ q. m.at Sum q ≤ paid m.pay w) h.on_top (omega arith)
+      subst (λ q. m.at Sum q ≤ paid m.pay w) (ap top_tree h.left) (omega arith)

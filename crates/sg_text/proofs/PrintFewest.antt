@@ -14,7 +14,8 @@ use Rattle.std.proofs.lemmas.Str.Parse.{digit_from_value}
 use Rattle.sg_spec.specs.Tree.{Tree, numeral, here, param, add, neg, div, power}
 use Rattle.sg_spec.specs.Syntax.{Placed, number, named, negated, added, subtracted, multiplied, divided, raised, sum_call, product_call, harmonic, harmonic_of_order, factorial, binomial, constant_power}
 use Rattle.sg_spec.specs.Reading.{is_variable, inside, signed, tree_in, is_divisor, is_constant, form, unlimited, fault_unless, bound_faults, call_faults, Fault, faults, Reads}
-use Rattle.sg_spec.specs.Printing.{is_constant_tree, IsShort, closed_in, HasFewest}
+use Rattle.sg_spec.specs.Printing.{IsShort, closed_in, HasFewest}
+use Rattle.sg_spec.specs.Shape.{is_constant_tree}
 use Rattle.sg_text.specs.Reads.{IsLetter, IsFree}
 use Rattle.sg_text.specs.declared.printing.ProductForm.{ProductForm}
 use Rattle.sg_text.specs.declared.printing.ProductForm.TheVariants.{Full, Factorial, Binomial, Power}
@@ -25,7 +26,7 @@ use Rattle.sg_text.proofs.PrintSteps.{plain_added}
 use Rattle.sg_text.proofs.PrintBounds.{left_empty, right_empty}
 use Rattle.sg_text.proofs.PrintReads.{IsBound, bound-next, small_limit, is-harmonic, split_form, not_binomial, is-binomial}
 use Rattle.sg_text.proofs.PrintCosts.{paid}
-use Rattle.sg_text.proofs.PrintForms.{parens, cost_at, constant-tree, holds_if, bound_small, parens_paid}
+use Rattle.sg_text.proofs.PrintForms.{parens, cost_at, holds_if, bound_small, parens_paid}
 
 pub closed-append : (v w : List ℕ) → closed_in (v ++ w) ≡ closed_in v + closed_in w
 closed-append [] w = omega arith
@@ -272,7 +273,7 @@ fewer (factorial c u) names i v p b h hv hp hb short = let k = closed-name v hv 
 fewer (binomial c s x u) names i v p b h hv hp hb short =
     let test : List Fault = fault_unless (is_constant names x) form s.place in
     let top : call_faults i names c u ++ test ≡ [] = left_empty (call_faults i names c u ++ test) (faults unlimited i names x) h in
-    let constant : is_constant_tree (tree_in names x) ≡ true = constant-tree names x (holds_if (is_constant names x) form s.place (right_empty (call_faults i names c u) test top)) in
+    let constant : is_constant_tree (tree_in names x) ≡ true = (holds_if (is_constant names x) form s.place (right_empty (call_faults i names c u) test top)) in
     let one = fewer x names i b p (next_bound b) (right_empty (call_faults i names c u ++ test) (faults unlimited i names x) h) (bound-open b hb) hp (bound-next b hb) short.0.0.0 in
     let y : Placed = written b p (next_bound b) (div (add (add (tree_in names x) (numeral (pos 1))) (neg here)) here) in
     let k = closed-argument (plain (written b p (next_bound b) (tree_in names x))) v hv in

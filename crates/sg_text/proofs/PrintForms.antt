@@ -10,8 +10,9 @@ use Rattle.std.proofs.Common.{refl, subst, ap, ◌∙◌, arith}
 use Rattle.std.proofs.lemmas.Int.{ints}
 use Rattle.sg_spec.specs.Tree.{Tree, numeral, here, param, div, power}
 use Rattle.sg_spec.specs.Syntax.{Spot, Placed, number, named, negated, added, subtracted, multiplied, divided, raised, sum_call, product_call, harmonic, harmonic_of_order, factorial, binomial, constant_power}
-use Rattle.sg_spec.specs.Reading.{is_variable, is_parameter, is_known, inside, signed, tree_in, is_polynomial, is_divisor, is_constant, is_small, Kind, exponent_fault, unbound, form, unlimited, fault_unless, bound_faults, call_faults, Fault, faults, HasTree, Bounds, IsRead}
-use Rattle.sg_spec.specs.Printing.{has_parameter, IsPrintable, is_polynomial_tree, is_divisor_tree, is_constant_tree, InForm}
+use Rattle.sg_spec.specs.Reading.{is_variable, is_parameter, is_known, inside, signed, tree_in, all_known, is_divisor, is_constant, is_small, Kind, exponent_fault, unbound, form, unlimited, fault_unless, bound_faults, call_faults, Fault, faults, HasTree, Bounds, IsRead}
+use Rattle.sg_spec.specs.Printing.{has_parameter, IsPrintable, InForm}
+use Rattle.sg_spec.specs.Shape.{is_divisor_tree, is_constant_tree}
 use Rattle.sg_text.specs.declared.printing.Level.{Level}
 use Rattle.sg_text.specs.declared.printing.Level.TheVariants.{Sum, Term, Factor, Atom}
 use Rattle.sg_text.specs.PrintedText.{level_of, is_below}
@@ -214,50 +215,8 @@ signed_size (suc s) (suc n) = refl
 natural : (n : ℕ) → pos 0 ≤ℤ pos n
 natural n = omega (arith, ints)
 
-pub polynomial-tree : (names : List ℕ) (t : Placed) → is_polynomial names t ≡ true → is_polynomial_tree (tree_in names t) ≡ true
-polynomial-tree names (number s) h = refl
-polynomial-tree names (named s) h = elim (is_variable names s.value) as (λ q. is_polynomial_tree (cond q here param) ≡ true) [ true ↦ refl | false ↦ refl ]
-polynomial-tree names (negated x) h = polynomial-tree names x h
-polynomial-tree names (added x y) h =
-    ap (λ q. q && is_polynomial_tree (tree_in names y)) (polynomial-tree names x (left_true (is_polynomial names x) (is_polynomial names y) h)) ∙ polynomial-tree names y (right_true (is_polynomial names x) (is_polynomial names y) h)
-polynomial-tree names (subtracted x y) h =
-    ap (λ q. q && is_polynomial_tree (tree_in names y)) (polynomial-tree names x (left_true (is_polynomial names x) (is_polynomial names y) h)) ∙ polynomial-tree names y (right_true (is_polynomial names x) (is_polynomial names y) h)
-polynomial-tree names (multiplied x y) h =
-    ap (λ q. q && is_polynomial_tree (tree_in names y)) (polynomial-tree names x (left_true (is_polynomial names x) (is_polynomial names y) h)) ∙ polynomial-tree names y (right_true (is_polynomial names x) (is_polynomial names y) h)
-polynomial-tree names (raised x e) h = polynomial-tree names x h
-polynomial-tree names x h = cc
-
 pub divisor-tree : (names : List ℕ) (t : Placed) → is_divisor names t ≡ true → is_divisor_tree (tree_in names t) ≡ true
-divisor-tree names (number s) h = refl
-divisor-tree names (named s) h = elim (is_variable names s.value) as (λ q. is_divisor_tree (cond q here param) ≡ true) [ true ↦ refl | false ↦ refl ]
-divisor-tree names (negated x) h = divisor-tree names x h
-divisor-tree names (added x y) h = polynomial-tree names (added x y) h
-divisor-tree names (subtracted x y) h = polynomial-tree names (subtracted x y) h
-divisor-tree names (multiplied x y) h =
-    ap (λ q. q && is_divisor_tree (tree_in names y)) (divisor-tree names x (left_true (is_divisor names x) (is_divisor names y) h)) ∙ divisor-tree names y (right_true (is_divisor names x) (is_divisor names y) h)
-divisor-tree names (raised x e) h = divisor-tree names x h
-divisor-tree names (product_call c b s l u x) h = refl
-divisor-tree names (factorial c v) h = refl
-divisor-tree names (binomial c s x v) h = refl
-divisor-tree names (constant_power c x v) h = refl
-divisor-tree names x h = cc
-
-constant_name : (t : Bool) → not t ≡ true → is_constant_tree (cond t here param) ≡ true
-constant_name true h = cc
-constant_name false h = refl
-
-pub constant-tree : (names : List ℕ) (t : Placed) → is_constant names t ≡ true → is_constant_tree (tree_in names t) ≡ true
-constant-tree names (number s) h = refl
-constant-tree names (named s) h = constant_name (is_variable names s.value) h
-constant-tree names (negated x) h = constant-tree names x h
-constant-tree names (added x y) h =
-    ap (λ q. q && is_constant_tree (tree_in names y)) (constant-tree names x (left_true (is_constant names x) (is_constant names y) h)) ∙ constant-tree names y (right_true (is_constant names x) (is_constant names y) h)
-constant-tree names (subtracted x y) h =
-    ap (λ q. q && is_constant_tree (tree_in names y)) (constant-tree names x (left_true (is_constant names x) (is_constant names y) h)) ∙ constant-tree names y (right_true (is_constant names x) (is_constant names y) h)
-constant-tree names (multiplied x y) h =
-    ap (λ q. q && is_constant_tree (tree_in names y)) (constant-tree names x (left_true (is_constant names x) (is_constant names y) h)) ∙ constant-tree names y (right_true (is_constant names x) (is_constant names y) h)
-constant-tree names (raised x e) h = constant-tree names x h
-constant-tree names x h = cc
+divisor-tree names t h = right_true (all_known names t) (is_divisor_tree (tree_in names t)) h
 
 -- the parts of the faults of a call
 pub call_alone : (i : Bool) (names : List ℕ) (c v : Spot) → call_faults i names c v ≡ [] → i ≡ false
@@ -354,7 +313,7 @@ in_form i names (factorial c v) h n = (call_alone i names c v h, refl, tt)
 in_form i names (binomial c s x v) h n =
     let test : List Fault = fault_unless (is_constant names x) form s.place in
     let top : call_faults i names c v ++ test ≡ [] = left_empty (call_faults i names c v ++ test) (faults unlimited i names x) h in
-    let constant : is_constant_tree (tree_in names x) ≡ true = constant-tree names x (holds_if (is_constant names x) form s.place (right_empty (call_faults i names c v) test top)) in (
+    let constant : is_constant_tree (tree_in names x) ≡ true = (holds_if (is_constant names x) form s.place (right_empty (call_faults i names c v) test top)) in (
       call_alone i names c v (left_empty (call_faults i names c v) test top),
       refl,
       (((constant-form (has_parameter names) i true (tree_in names x) constant (in_form i names x (right_empty (call_faults i names c v ++ test) (faults unlimited i names x) h) n), natural 1), tt), tt, refl),

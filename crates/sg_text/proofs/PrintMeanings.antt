@@ -2,11 +2,13 @@
 --   Fine      a placed tree without fault, its tree, and what it is for those tests
 --   fine-..   the same for each kind of placed tree
 use Rattle.std.specs.Prelude.{◌≡◌, ◌==◌, ℕ, ℤ, pos, negsuc, unsigned_abs, Bool, true, false, not, cond, ◌&&◌, ◌||◌, List, [], ◌++◌}
-use Rattle.std.proofs.Common.{refl, ap, ◌∙◌}
+use Rattle.std.proofs.Common.{refl, sym, ap, ◌∙◌}
 use Rattle.sg_spec.specs.Tree.{Tree, numeral, here, param, add, neg, mul, div, power, sum_from, prod_from}
 use Rattle.sg_spec.specs.Syntax.{Spot, Placed, number, named, negated, added, subtracted, multiplied, divided, raised, sum_call, product_call, harmonic, harmonic_of_order, factorial, binomial, constant_power}
-use Rattle.sg_spec.specs.Reading.{is_variable, is_parameter, is_known, inside, signed, harmonic_sum, binomial_product, tree_in, is_polynomial, is_divisor, is_constant, is_small, exponent_fault, unbound, form, unlimited, fault_unless, bound_faults, call_faults, faults}
-use Rattle.sg_spec.specs.Printing.{is_polynomial_tree, is_divisor_tree, is_constant_tree}
+use Rattle.sg_spec.specs.Reading.{is_variable, is_parameter, is_known, inside, signed, harmonic_sum, binomial_product, tree_in, is_constant, is_small, exponent_fault, unbound, form, unlimited, fault_unless, bound_faults, call_faults, faults}
+use Rattle.sg_spec.specs.Shape.{is_polynomial_tree, is_divisor_tree, is_constant_tree}
+use Rattle.sg_text.specs.Tests.{polynomial_in, divisor_in, constant_in}
+use Rattle.sg_text.proofs.Tested.{divisor_in-is, constant_in-is}
 use Rattle.sg_text.specs.PrintedText.{sign_of}
 use Rattle.sg_text.proofs.Printed.{at_spot, Means}
 use Rattle.sg_text.proofs.Meanings.{both_empty, no_fault_if, means-number, means-neg, means-add, means-sub, means-mul, means-div, means-power}
@@ -14,9 +16,9 @@ use Rattle.sg_text.proofs.PrintSteps.{left_true, right_true}
 
 pub record Fine (names : List ℕ) (in_product : Bool) (e : Tree) (t : Placed) : Type 0 where
   pub means : Means unlimited in_product names e t
-  pub polynomial : is_polynomial_tree e ≡ true → is_polynomial names t ≡ true
-  pub divisor : is_divisor_tree e ≡ true → is_divisor names t ≡ true
-  pub constant : is_constant_tree e ≡ true → is_constant names t ≡ true
+  pub polynomial : is_polynomial_tree e ≡ true → polynomial_in names t ≡ true
+  pub divisor : is_divisor_tree e ≡ true → divisor_in names t ≡ true
+  pub constant : is_constant_tree e ≡ true → constant_in names t ≡ true
 
 both_hold : (a b : Bool) → a ≡ true → b ≡ true → (a && b) ≡ true
 both_hold a b h k = ap (λ q. q && b) h ∙ k
@@ -34,30 +36,30 @@ module _ (names : List ℕ) (in_product : Bool) where
   pub fine-add : (e f : Tree) (x y : Placed) → Fine names in_product e x → Fine names in_product f y → Fine names in_product (add e f) (added x y)
   fine-add e f x y h k = record {
     means = means-add unlimited in_product names e f x y h.means k.means;
-    polynomial = both (is_polynomial_tree e) (is_polynomial_tree f) (is_polynomial names x) (is_polynomial names y) h.polynomial k.polynomial;
-    divisor = both (is_polynomial_tree e) (is_polynomial_tree f) (is_polynomial names x) (is_polynomial names y) h.polynomial k.polynomial;
-    constant = both (is_constant_tree e) (is_constant_tree f) (is_constant names x) (is_constant names y) h.constant k.constant;
+    polynomial = both (is_polynomial_tree e) (is_polynomial_tree f) (polynomial_in names x) (polynomial_in names y) h.polynomial k.polynomial;
+    divisor = both (is_polynomial_tree e) (is_polynomial_tree f) (polynomial_in names x) (polynomial_in names y) h.polynomial k.polynomial;
+    constant = both (is_constant_tree e) (is_constant_tree f) (constant_in names x) (constant_in names y) h.constant k.constant;
   }
 
   pub fine-sub : (e f : Tree) (x y : Placed) → Fine names in_product e x → Fine names in_product f y → Fine names in_product (add e (neg f)) (subtracted x y)
   fine-sub e f x y h k = record {
     means = means-sub unlimited in_product names e f x y h.means k.means;
-    polynomial = both (is_polynomial_tree e) (is_polynomial_tree f) (is_polynomial names x) (is_polynomial names y) h.polynomial k.polynomial;
-    divisor = both (is_polynomial_tree e) (is_polynomial_tree f) (is_polynomial names x) (is_polynomial names y) h.polynomial k.polynomial;
-    constant = both (is_constant_tree e) (is_constant_tree f) (is_constant names x) (is_constant names y) h.constant k.constant;
+    polynomial = both (is_polynomial_tree e) (is_polynomial_tree f) (polynomial_in names x) (polynomial_in names y) h.polynomial k.polynomial;
+    divisor = both (is_polynomial_tree e) (is_polynomial_tree f) (polynomial_in names x) (polynomial_in names y) h.polynomial k.polynomial;
+    constant = both (is_constant_tree e) (is_constant_tree f) (constant_in names x) (constant_in names y) h.constant k.constant;
   }
 
   pub fine-mul : (e f : Tree) (x y : Placed) → Fine names in_product e x → Fine names in_product f y → Fine names in_product (mul e f) (multiplied x y)
   fine-mul e f x y h k = record {
     means = means-mul unlimited in_product names e f x y h.means k.means;
-    polynomial = both (is_polynomial_tree e) (is_polynomial_tree f) (is_polynomial names x) (is_polynomial names y) h.polynomial k.polynomial;
-    divisor = both (is_divisor_tree e) (is_divisor_tree f) (is_divisor names x) (is_divisor names y) h.divisor k.divisor;
-    constant = both (is_constant_tree e) (is_constant_tree f) (is_constant names x) (is_constant names y) h.constant k.constant;
+    polynomial = both (is_polynomial_tree e) (is_polynomial_tree f) (polynomial_in names x) (polynomial_in names y) h.polynomial k.polynomial;
+    divisor = both (is_divisor_tree e) (is_divisor_tree f) (divisor_in names x) (divisor_in names y) h.divisor k.divisor;
+    constant = both (is_constant_tree e) (is_constant_tree f) (constant_in names x) (constant_in names y) h.constant k.constant;
   }
 
   pub fine-div : (e f : Tree) (x y : Placed) (s : Spot) → is_divisor_tree f ≡ true → Fine names in_product e x → Fine names in_product f y → Fine names in_product (div e f) (divided x s y)
   fine-div e f x y s d h k = record {
-    means = means-div unlimited in_product names e f x y s h.means (record { means = k.means; divides = k.divisor d });
+    means = means-div unlimited in_product names e f x y s h.means (record { means = k.means; divides = sym (divisor_in-is names y) ∙ k.divisor d });
     polynomial = λ q. q;
     divisor = λ q. q;
     constant = λ q. q;
@@ -170,7 +172,7 @@ module _ (names : List ℕ) (v : ℕ) (variable : is_variable names v ≡ true) 
   fine-binomial e x s t u c h = record {
     means = record {
       no_fault = both_empty (call_faults false names (at_spot s 0) (at_spot t v) ++ fault_unless (is_constant names x) form u) (faults unlimited false names x)
-          (both_empty (call_faults false names (at_spot s 0) (at_spot t v)) (fault_unless (is_constant names x) form u) (call_clear names false v s t refl variable) (no_fault_if (is_constant names x) form u (h.constant c)))
+          (both_empty (call_faults false names (at_spot s 0) (at_spot t v)) (fault_unless (is_constant names x) form u) (call_clear names false v s t refl variable) (no_fault_if (is_constant names x) form u (sym (constant_in-is names x) ∙ h.constant c)))
           h.means.no_fault;
       meaning = ap binomial_product h.means.meaning;
     };

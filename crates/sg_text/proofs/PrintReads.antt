@@ -10,7 +10,8 @@ use Rattle.std.proofs.lemmas.Int.{ints}
 use Rattle.sg_spec.specs.Tree.{Tree, numeral, here, param, add, neg, mul, div, power, sum_from, prod_from}
 use Rattle.sg_spec.specs.Syntax.{Placed, number, negated, harmonic, harmonic_of_order}
 use Rattle.sg_spec.specs.Reading.{is_parameter, is_small, harmonic_sum, binomial_product, unlimited, Reads}
-use Rattle.sg_spec.specs.Printing.{SparesBound, has_parameter, is_constant_tree, InForm, IsShort}
+use Rattle.sg_spec.specs.Printing.{SparesBound, has_parameter, InForm, IsShort}
+use Rattle.sg_spec.specs.Shape.{is_constant_tree}
 use Rattle.sg_text.specs.Reads.{IsLetter, IsFree}
 use Rattle.sg_text.specs.declared.printing.ProductForm.{ProductForm}
 use Rattle.sg_text.specs.declared.printing.ProductForm.TheVariants.{Full, Factorial, Binomial, Power}

@@ -7,7 +7,8 @@ use Rattle.std.specs.Prelude.{◌≡◌, ℕ, ◌<◌, ◌^◌, ℤ, pos, negsuc
 use Rattle.std.proofs.Common.{refl, sym, ap, ◌∙◌, append_assoc, arith}
 use Rattle.std.proofs.lemmas.Bool.Decides.{nat_tests}
 use Rattle.sg_spec.specs.Tree.{Tree, numeral, here, add, neg, div}
-use Rattle.sg_spec.specs.Printing.{is_constant_tree, IsShort}
+use Rattle.sg_spec.specs.Printing.{IsShort}
+use Rattle.sg_spec.specs.Shape.{is_constant_tree}
 use Rattle.sg_text.specs.declared.printing.ProductForm.TheVariants.{Full, Binomial}
 use Rattle.sg_text.specs.PrintedText.{is_first, is_one, is_here, is_minus_here, body_form, written, left_of, added_text, plain}
 

@@ -13,6 +13,7 @@ use Rattle.std.proofs.lemmas.Str.Parse.{digit_from_value}
 use Rattle.sg_spec.specs.Tree.{Tree}
 use Rattle.sg_spec.specs.Grammar.{Action, mark, letter, begin_number, digit, use_name, negate, add_up, subtract, multiply, divide, raise, Symbol, span, act, blanks, text, expr, more_terms, term, more_factors, factor, exponent, atom, worded, variable, digits, more_digits, rules, IsOneOf, first, later, is_act, Builds, none_left, eats, acts, opens_by}
 use Rattle.sg_spec.specs.Syntax.{Spot, Placed, named, negated, added, subtracted, multiplied, divided, raised, State, at_start, after_byte, after_action, top_tree}
+use Rattle.sg_syntax.proofs.Balance.{has_tree}
 use Rattle.sg_spec.specs.Reading.{tree_in, is_divisor, Limits, faults, unlimited, Reads}
 
 abbrev pub Ends : (Placed → Type 0) → List Symbol → List ℕ → State → Type 0
@@ -228,4 +229,4 @@ pub record MeansDivisor (limits : Limits) (in_product : Bool) (names : List ℕ)
 pub reads_text : (w names : List ℕ) (e : Tree) → Sum (Means unlimited false names e) (Means unlimited false names e) w → Reads w names e
 reads_text w names e a =
     let (end, built, good) = ends_text (Means unlimited false names e) w a in
-    record { placed = top_tree end.trees; has_tree = record { end = end; built = built; on_top = refl }; no_fault = good.no_fault; meaning = good.meaning }
+    record { placed = top_tree end.trees; has_tree = has_tree w end built; no_fault = good.no_fault; meaning = good.meaning }

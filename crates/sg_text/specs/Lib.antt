@@ -1,6 +1,7 @@
 pub mod Firsts
 pub mod Sizes
 pub mod Scopes
+pub mod Tests
 pub mod Limited
 pub mod Fits
 pub mod Reads

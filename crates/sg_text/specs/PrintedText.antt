@@ -15,7 +15,7 @@ use Rattle.std.specs.Prelude.{◌==◌, ℕ, zero, suc, nat_lt, ℤ, pos, negsuc
 use Rattle.std.specs.Fmt.{decimal}
 use Rattle.sg_spec.specs.Tree.{Tree, numeral, here, param, add, neg, mul, div, power, sum_from, prod_from}
 use Rattle.sg_spec.specs.Syntax.{Spot, Placed, number, named, negated, added, subtracted, multiplied, divided, raised, sum_call, product_call, harmonic, harmonic_of_order, factorial, binomial, constant_power}
-use Rattle.sg_spec.specs.Printing.{is_constant_tree}
+use Rattle.sg_spec.specs.Shape.{is_constant_tree}
 use Rattle.sg_text.specs.declared.printing.ProductForm.{ProductForm}
 use Rattle.sg_text.specs.declared.printing.ProductForm.TheVariants.{Full, Factorial, Binomial, Power}
 use Rattle.sg_text.specs.declared.printing.Level.{Level}

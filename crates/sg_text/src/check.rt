@@ -1,7 +1,8 @@
 //! The first fault of a tree.
 ghost use Rattle.std.specs.Prelude.{◌≡◌, ◌==◌, ◌&&◌, ◌++◌, not};
-ghost use Rattle.sg_spec.specs.Reading.{is_polynomial as is_polynomial_in, is_divisor as is_divisor_in, is_constant as is_constant_in, call_faults, bound_faults, faults, fault_unless, numeral_fault, exponent_fault, form};
+ghost use Rattle.sg_spec.specs.Reading.{is_divisor as is_divisor_in, is_constant as is_constant_in, call_faults, bound_faults, faults, fault_unless, numeral_fault, exponent_fault, form};
 ghost use Rattle.sg_text.specs.Firsts.{first_of};
+ghost use Rattle.sg_text.specs.Tests.{polynomial_in, divisor_in, constant_in};
 ghost use Rattle.sg_syntax.specs.Drafts.{value_of, mark_spot, numeral_spot, placed_of};
 ghost use Rattle.sg_text.specs.Scopes.{names_of, found_of};
 ghost use Rattle.sg_text.specs.Limited.{limits_of};
@@ -11,115 +12,28 @@ use crate::found::{Found, Kind, earlier, unless};
 use crate::scope::Scope;
 use sg_syntax::{Head, Mark, Node, Numeral};
 
-/// Whether it is built from numbers, the variable and the parameter without calls and divisions.
-fn is_polynomial(node: &Node, scope: Scope) -> bool
-    ensures { result ≡ is_polynomial_in (names_of scope) (placed_of node.now) }
-{
-    match node {
-        Node::Number(_, _) | Node::LargeNumber(_) => true,
-        Node::Named(m) => scope.is_known(m.value),
-        Node::Negated(x) => is_polynomial(x, scope),
-        Node::Added(x, y) => is_polynomial(x, scope) && is_polynomial(y, scope),
-        Node::Subtracted(x, y) => is_polynomial(x, scope) && is_polynomial(y, scope),
-        Node::Multiplied(x, y) => is_polynomial(x, scope) && is_polynomial(y, scope),
-        Node::Raised(x, _) => is_polynomial(x, scope),
-        _ => false,
-    }
-}
-
-/// Whether it is a polynomial, a product, or built from such by powers, products and opposites.
-fn is_divisor(node: &Node, scope: Scope) -> bool
-    ensures { result ≡ is_divisor_in (names_of scope) (placed_of node.now) }
-{
-    match node {
-        Node::Number(_, _) | Node::LargeNumber(_) => true,
-        Node::Named(m) => scope.is_known(m.value),
-        Node::Negated(x) => is_divisor(x, scope),
-        Node::Added(x, y) => is_polynomial(x, scope) && is_polynomial(y, scope),
-        Node::Subtracted(x, y) => is_polynomial(x, scope) && is_polynomial(y, scope),
-        Node::Multiplied(x, y) => is_divisor(x, scope) && is_divisor(y, scope),
-        Node::Raised(x, _) => is_divisor(x, scope),
-        Node::ProductCall(_, _) => true,
-        Node::Factorial(_, _) => true,
-        Node::Binomial(_, _, _, _) => true,
-        Node::ConstantPower(_, _, _) => true,
-        _ => false,
-    }
-}
-
-/// Whether it is built from numbers and names other than the variable without calls and divisions.
-fn is_constant(node: &Node, scope: Scope) -> bool
-    ensures { result ≡ is_constant_in (names_of scope) (placed_of node.now) }
-{
-    match node {
-        Node::Number(_, _) | Node::LargeNumber(_) => true,
-        Node::Named(m) => !scope.is_variable(m.value),
-        Node::Negated(x) => is_constant(x, scope),
-        Node::Added(x, y) => is_constant(x, scope) && is_constant(y, scope),
-        Node::Subtracted(x, y) => is_constant(x, scope) && is_constant(y, scope),
-        Node::Multiplied(x, y) => is_constant(x, scope) && is_constant(y, scope),
-        Node::Raised(x, _) => is_constant(x, scope),
-        _ => false,
-    }
-}
-
+/// The first fault of a tree, if there is one; the test tells whether it stands in the body of a product. A text of many
+/// terms or factors goes far down on the left alone: so left operands are taken in a loop, the last one first.
+#[cycle(faults)]
 #[tactic(auto, using(crate::proofs::FirstFault::appended))]
-fn call_fault(in_product: bool, scope: Scope, call: Mark, name: Mark) -> Option<Found>
-    ensures { found_of result ≡ first_of (call_faults in_product (names_of scope) (mark_spot call) (mark_spot name)) }
+pub fn first_fault(node: &Node, bounds: &Bounds, in_product: bool, scope: Scope) -> Option<Found>
+    ensures { found_of result ≡ first_of (faults (limits_of bounds.now) in_product (names_of scope) (placed_of node.now)) }
 {
-    earlier(
-        unless(!in_product, Kind::Form, call.at),
-        unless(scope.is_variable(name.value), Kind::Form, name.at),
-    )
-}
-
-#[tactic(auto, using(crate::proofs::FirstFault::appended))]
-fn head_fault(bounds: &Bounds, in_product: bool, scope: Scope, head: &Head) -> Option<Found>
-    ensures { found_of result ≡ first_of (bound_faults (limits_of bounds.now) in_product (names_of scope) (mark_spot head.now.call) (mark_spot head.now.bound) (mark_spot head.now.sign) (numeral_spot head.now.lower) (mark_spot head.now.upper)) }
-{
-    let call = unless(!in_product, Kind::Form, head.call.at);
-    let bound = unless(
-        !scope.is_parameter(head.bound.value),
-        Kind::Form,
-        head.bound.at,
-    );
-    let sign = unless(is_small(head.lower), Kind::Form, head.sign.at);
-    let lower = unless(
-        bounds.takes_numeral(head.lower),
-        Kind::Numeral,
-        head.lower.at,
-    );
-    let upper = unless(
-        scope.is_variable(head.upper.value),
-        Kind::Form,
-        head.upper.at,
-    );
-    earlier(earlier(earlier(earlier(call, bound), sign), lower), upper)
-}
-
-fn number_fault(bounds: &Bounds, at: u32, v: u64) -> Option<Found>
-    ensures { found_of result ≡ first_of (fault_unless ((limits_of bounds.now).numeral v) numeral_fault at) }
-{
-    let n = Numeral {
-        at,
-        value: Some(v as u128),
-    };
-    unless(bounds.takes_numeral(n), Kind::Numeral, at)
-}
-
-/// The second argument of `H` is an exponent of at least 1.
-fn order_fault(bounds: &Bounds, order: &Numeral) -> Option<Found>
-    ensures { found_of result ≡ first_of (fault_unless (not (value_of order.now.value == 0) && (limits_of bounds.now).exponent (value_of order.now.value)) exponent_fault order.now.at) }
-{
-    let is_zero = match order.value {
-        Some(v) => v == 0,
-        None => false,
-    };
-    unless(
-        !is_zero && bounds.takes_exponent(*order),
-        Kind::Exponent,
-        order.at,
-    )
+    let mut left = node;
+    let mut later = None;
+    loop {
+        match left {
+            Node::Added(x, y) | Node::Subtracted(x, y) | Node::Multiplied(x, y) => {
+                later = earlier(first_fault(y, bounds, in_product, scope), later);
+                left = x;
+            }
+            Node::Divided(x, place, y) => {
+                later = earlier(divisor_fault(*place, y, bounds, in_product, scope), later);
+                left = x;
+            }
+            _ => return earlier(fault_of_parts(left, bounds, in_product, scope), later),
+        }
+    }
 }
 
 /// The first fault of a divisor, which has to have its form.
@@ -132,10 +46,63 @@ fn divisor_fault(
     in_product: bool,
     scope: Scope,
 ) -> Option<Found>
-    ensures { found_of result ≡ first_of (fault_unless (is_divisor_in (names_of scope) (placed_of y.now)) form place.at ++ faults (limits_of bounds.now) in_product (names_of scope) (placed_of y.now)) }
+    ensures { found_of result ≡ first_of (fault_unless (is_divisor_in (names_of scope) (placed_of y.now)) form place.at
+        ++ faults (limits_of bounds.now) in_product (names_of scope) (placed_of y.now)) }
 {
     let divisor = unless(is_divisor(y, scope), Kind::Form, place.at);
     earlier(divisor, first_fault(y, bounds, in_product, scope))
+}
+
+/// Whether its tree is a divisor, without a name that is unknown.
+fn is_divisor(node: &Node, scope: Scope) -> bool
+    ensures { result ≡ is_divisor_in (names_of scope) (placed_of node.now) }
+{
+    let test = has_divisor_form(node, scope);
+    test
+}
+
+/// Whether it is a polynomial, a product, or built from such by powers, products and opposites.
+fn has_divisor_form(node: &Node, scope: Scope) -> bool
+    ensures { result ≡ divisor_in (names_of scope) (placed_of node.now) }
+{
+    match node {
+        Node::Number(_, _) | Node::LargeNumber(_) => true,
+        Node::Named(m) => scope.is_known(m.value),
+        Node::Negated(x) | Node::Raised(x, _) => has_divisor_form(x, scope),
+        Node::Added(x, y) | Node::Subtracted(x, y) => is_polynomial(x, scope)
+            && is_polynomial(y, scope),
+        Node::Multiplied(x, y) => has_divisor_form(x, scope) && has_divisor_form(y, scope),
+        Node::ProductCall(_, _)
+        | Node::Factorial(_, _)
+        | Node::Binomial(_, _, _, _)
+        | Node::ConstantPower(_, _, _) => true,
+        Node::Divided(_, _, _)
+        | Node::SumCall(_, _)
+        | Node::Harmonic(_, _)
+        | Node::HarmonicOfOrder(_, _, _) => false,
+    }
+}
+
+/// Whether it is built from numbers, the variable and the parameter without calls and divisions.
+fn is_polynomial(node: &Node, scope: Scope) -> bool
+    ensures { result ≡ polynomial_in (names_of scope) (placed_of node.now) }
+{
+    match node {
+        Node::Number(_, _) | Node::LargeNumber(_) => true,
+        Node::Named(m) => scope.is_known(m.value),
+        Node::Negated(x) | Node::Raised(x, _) => is_polynomial(x, scope),
+        Node::Added(x, y) | Node::Subtracted(x, y) | Node::Multiplied(x, y) => {
+            is_polynomial(x, scope) && is_polynomial(y, scope)
+        }
+        Node::Divided(_, _, _)
+        | Node::SumCall(_, _)
+        | Node::ProductCall(_, _)
+        | Node::Harmonic(_, _)
+        | Node::HarmonicOfOrder(_, _, _)
+        | Node::Factorial(_, _)
+        | Node::Binomial(_, _, _, _)
+        | Node::ConstantPower(_, _, _) => false,
+    }
 }
 
 /// The first fault of a tree, by its parts.
@@ -194,26 +161,93 @@ fn fault_of_parts(node: &Node, bounds: &Bounds, in_product: bool, scope: Scope) 
     }
 }
 
-/// The first fault of a tree, if there is one; the test tells whether it stands in the body of a product. A text of many
-/// terms or factors goes far down on the left alone: so left operands are taken in a loop, the last one first.
-#[cycle(faults)]
-#[tactic(auto, using(crate::proofs::FirstFault::appended))]
-pub fn first_fault(node: &Node, bounds: &Bounds, in_product: bool, scope: Scope) -> Option<Found>
-    ensures { found_of result ≡ first_of (faults (limits_of bounds.now) in_product (names_of scope) (placed_of node.now)) }
+fn number_fault(bounds: &Bounds, at: u32, v: u64) -> Option<Found>
+    ensures { found_of result ≡ first_of (fault_unless ((limits_of bounds.now).numeral v) numeral_fault at) }
 {
-    let mut left = node;
-    let mut later = None;
-    loop {
-        match left {
-            Node::Added(x, y) | Node::Subtracted(x, y) | Node::Multiplied(x, y) => {
-                later = earlier(first_fault(y, bounds, in_product, scope), later);
-                left = x;
-            }
-            Node::Divided(x, place, y) => {
-                later = earlier(divisor_fault(*place, y, bounds, in_product, scope), later);
-                left = x;
-            }
-            _ => return earlier(fault_of_parts(left, bounds, in_product, scope), later),
+    let n = Numeral {
+        at,
+        value: Some(v as u128),
+    };
+    unless(bounds.takes_numeral(n), Kind::Numeral, at)
+}
+
+#[tactic(auto, using(crate::proofs::FirstFault::appended))]
+fn head_fault(bounds: &Bounds, in_product: bool, scope: Scope, head: &Head) -> Option<Found>
+    ensures { found_of result ≡ first_of (bound_faults (limits_of bounds.now) in_product (names_of scope)
+        (mark_spot head.now.call) (mark_spot head.now.bound) (mark_spot head.now.sign) (numeral_spot head.now.lower) (mark_spot head.now.upper)) }
+{
+    let call = unless(!in_product, Kind::Form, head.call.at);
+    let bound = unless(
+        !scope.is_parameter(head.bound.value),
+        Kind::Form,
+        head.bound.at,
+    );
+    let sign = unless(is_small(head.lower), Kind::Form, head.sign.at);
+    let lower = unless(
+        bounds.takes_numeral(head.lower),
+        Kind::Numeral,
+        head.lower.at,
+    );
+    let upper = unless(
+        scope.is_variable(head.upper.value),
+        Kind::Form,
+        head.upper.at,
+    );
+    earlier(earlier(earlier(earlier(call, bound), sign), lower), upper)
+}
+
+#[tactic(auto, using(crate::proofs::FirstFault::appended))]
+fn call_fault(in_product: bool, scope: Scope, call: Mark, name: Mark) -> Option<Found>
+    ensures { found_of result ≡ first_of (call_faults in_product (names_of scope) (mark_spot call) (mark_spot name)) }
+{
+    earlier(
+        unless(!in_product, Kind::Form, call.at),
+        unless(scope.is_variable(name.value), Kind::Form, name.at),
+    )
+}
+
+/// The second argument of `H` is an exponent of at least 1.
+fn order_fault(bounds: &Bounds, order: &Numeral) -> Option<Found>
+    ensures { found_of result ≡ first_of (fault_unless (not (value_of order.now.value == 0)
+        && (limits_of bounds.now).exponent (value_of order.now.value)) exponent_fault order.now.at) }
+{
+    let is_zero = match order.value {
+        Some(v) => v == 0,
+        None => false,
+    };
+    unless(
+        !is_zero && bounds.takes_exponent(*order),
+        Kind::Exponent,
+        order.at,
+    )
+}
+
+/// Whether its tree is a constant.
+fn is_constant(node: &Node, scope: Scope) -> bool
+    ensures { result ≡ is_constant_in (names_of scope) (placed_of node.now) }
+{
+    let test = has_constant_form(node, scope);
+    test
+}
+
+/// Whether it is built from numbers and names other than the variable without calls and divisions.
+fn has_constant_form(node: &Node, scope: Scope) -> bool
+    ensures { result ≡ constant_in (names_of scope) (placed_of node.now) }
+{
+    match node {
+        Node::Number(_, _) | Node::LargeNumber(_) => true,
+        Node::Named(m) => !scope.is_variable(m.value),
+        Node::Negated(x) | Node::Raised(x, _) => has_constant_form(x, scope),
+        Node::Added(x, y) | Node::Subtracted(x, y) | Node::Multiplied(x, y) => {
+            has_constant_form(x, scope) && has_constant_form(y, scope)
         }
+        Node::Divided(_, _, _)
+        | Node::SumCall(_, _)
+        | Node::ProductCall(_, _)
+        | Node::Harmonic(_, _)
+        | Node::HarmonicOfOrder(_, _, _)
+        | Node::Factorial(_, _)
+        | Node::Binomial(_, _, _, _)
+        | Node::ConstantPower(_, _, _) => false,
     }
 }

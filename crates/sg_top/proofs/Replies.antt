@@ -14,7 +14,7 @@ use Rattle.sg_expr.specs.declared.tree.Expr.{Expr}
 use Rattle.sg_num.specs.declared.rat.Rat.{Rat}
 use Rattle.sg_spec.specs.Closed.{Closed}
 use Rattle.sg_spec.specs.Limits.{degrees}
-use Rattle.sg_spec.specs.Plain.{IsPlain, IsCanonical, weight}
+use Rattle.sg_spec.specs.Polynomials.{IsPolynomial, IsCanonical, weight}
 use Rattle.sg_spec.specs.Reading.{Refusal, Reads, IsRead, IsRefused}
 use Rattle.sg_spec.specs.Tree.{Tree}
 use Rattle.sg_spec.specs.Value.{val}
@@ -88,15 +88,15 @@ one : {X : Type 0} (P : X → Type 0) (x : X) → P x → All P (x ∷ [])
 one P x p zero d h = p
 one P x p (suc k) d h = absurd (omega arith)
 
-pub later-reply : (a : ℤ) (f : Tree) (line : List ℕ) → (IsPlain f → ⊥) → line ≡ item_line (codes "later") 1 → IsCountedReply (Sum a) (f ∷ []) Refused line
+pub later-reply : (a : ℤ) (f : Tree) (line : List ℕ) → (IsPolynomial f → ⊥) → line ≡ item_line (codes "later") 1 → IsCountedReply (Sum a) (f ∷ []) Refused line
 later-reply a f line h is = inl (refl, record { before = []; expression = f; after = []; split = refl; taken = none (IsTaken (Sum a)); not_taken = h; is = is })
 
-pub closed-reply : (a : ℤ) (f h : Tree) (status : Status) (line : List ℕ) → IsPlain f → Closed f [] a h a → IsCanonical h → Reads (printed (codes "m") h) (codes "m") h → status ≡ Done
+pub closed-reply : (a : ℤ) (f h : Tree) (status : Status) (line : List ℕ) → IsPolynomial f → Closed f [] a h a → IsCanonical h → Reads (printed (codes "m") h) (codes "m") h → status ≡ Done
     → line ≡ closed_line (printed (codes "m") h) a → IsCountedReply (Sum a) (f ∷ []) status line
 closed-reply a f h status line plain closed canonical back done is =
     inr (one (IsTaken (Sum a)) f plain, inr (record { status_is = done; form = h; first = a; closed = closed; canonical = canonical; reads_back = back; is = is }))
 
-pub wide-sum : (a : ℤ) (f : Tree) (status : Status) (line : List ℕ) → IsPlain f → IsStopped status line → ((degrees f).variable ≤ 1 → weight f ≤ 65536 → unsigned_abs a ≤ 64 → ⊥) → IsCountedReply (Sum a) (f ∷ []) status line
+pub wide-sum : (a : ℤ) (f : Tree) (status : Status) (line : List ℕ) → IsPolynomial f → IsStopped status line → ((degrees f).variable ≤ 1 → weight f ≤ 65536 → unsigned_abs a ≤ 64 → ⊥) → IsCountedReply (Sum a) (f ∷ []) status line
 wide-sum a f status line plain s narrow =
     inr (one (IsTaken (Sum a)) f plain, inl (s.wide, record { step = s.step; cause = s.too_wide; not_narrow = λ n. narrow n.0 n.1 n.2; is = s.is }))
 

@@ -12,7 +12,7 @@ use Rattle.sg_spec.specs.Value.{val, SameValue}
 use Rattle.sg_spec.specs.Steps.{steps, IsFirstMisfit}
 use Rattle.sg_spec.specs.Reading.{Reads}
 use Rattle.sg_spec.specs.Limits.{degrees}
-use Rattle.sg_spec.specs.Plain.{IsCanonical, weight}
+use Rattle.sg_spec.specs.Polynomials.{IsCanonical, weight}
 use Rattle.sg_spec.specs.Closed.{Closed}
 use Rattle.sg_num.specs.Value.{fraction}
 use Rattle.sg_num.specs.Stopped.{IsTooWide}

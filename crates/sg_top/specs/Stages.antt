@@ -5,7 +5,7 @@
 --   IsTaken         the command answers expressions like this one so far: `sum` the polynomials
 use Rattle.std.specs.Prelude.{ℕ, nat_le, List, [], ◌∷◌, codes}
 use Rattle.sg_spec.specs.Tree.{Tree}
-use Rattle.sg_spec.specs.Plain.{IsPlain}
+use Rattle.sg_spec.specs.Polynomials.{IsPolynomial}
 use Rattle.sg_spec.specs.Reading.{Bounds, IsRead}
 use Rattle.sg_words.specs.declared.asked.Command.{Command}
 use Rattle.sg_words.specs.declared.asked.Command.TheVariants.{Sum, Value, ValueAtParameter}
@@ -25,6 +25,6 @@ AreRead c (text ∷ texts) [] = ⊥
 AreRead c (text ∷ texts) (e ∷ es) = IsRead input_bounds (letters_of c) text e × AreRead c texts es
 
 abbrev pub IsTaken : Command → Tree → Type 0
-IsTaken (Sum a) e = IsPlain e
+IsTaken (Sum a) e = IsPolynomial e
 IsTaken (Value k) e = Unit {0}
 IsTaken (ValueAtParameter n k) e = Unit {0}

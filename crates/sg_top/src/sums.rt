@@ -1,14 +1,13 @@
 ghost use Rattle.std.specs.Prelude.{◌≡◌, ◌↔◌, [], ◌∷◌, IfOk, IsTrue, codes, false};
 ghost use Rattle.sg_expr.specs.Tree.{tree_of};
-ghost use Rattle.sg_spec.specs.Plain.{IsPlain};
+ghost use Rattle.sg_spec.specs.Polynomials.{IsPolynomial};
 ghost use Rattle.sg_spec.specs.Printing.{InForm};
 ghost use Rattle.sg_spec.specs.Reading.{Reads};
 ghost use Rattle.sg_text.specs.PrintedText.{printed};
 ghost use Rattle.sg_top.specs.Answer.{IsCountedReply};
 ghost use Rattle.sg_top.specs.Lines.{closed_line};
 ghost use Rattle.sg_top.specs.Taking.{IsStopped};
-ghost use Rattle.sg_num.specs.Stopped.{KeepsWideStep};
-ghost use Rattle.sg_plain.specs.Linear.{IsMemory};
+ghost use Rattle.sg_num.specs.Stopped.{KeepsWideStep, IsMemory};
 ghost use Rattle.sg_words.specs.declared.asked.Command.TheVariants.{Sum};
 ghost use Rattle.sg_top.specs.declared.status.Status.TheVariants.{Done};
 
@@ -42,7 +41,7 @@ pub fn sum_reply(alloc: Global, f: &Expr, a: i64) -> Result<Reply, AllocError>
 
 // Whether the expression is built from numerals, the variable, sums, products, opposites and powers alone.
 fn is_polynomial(e: &Expr) -> bool
-    ensures { IsTrue result ↔ IsPlain (tree_of e.now) }
+    ensures { IsTrue result ↔ IsPolynomial (tree_of e.now) }
 {
     match e {
         Expr::Num(_) | Expr::Here => true,

@@ -7,7 +7,7 @@ use Rattle.sg_num.specs.Value.{fraction, number}
 use Rattle.sg_num.proofs.Numbers.{number-whole}
 use Rattle.sg_spec.specs.Fraction.{whole}
 use Rattle.sg_spec.specs.Limits.{nodes}
-use Rattle.sg_spec.specs.Plain.{IsPlain}
+use Rattle.sg_spec.specs.Polynomials.{IsPolynomial}
 use Rattle.sg_spec.specs.Tree.{Tree, numeral}
 use Rattle.sg_expr.specs.Tree.{tree_of}
 use Rattle.sg_plain.specs.Evaluation.{value_at, plain_value}
@@ -54,7 +54,7 @@ add_part-returns-in_ok-d-in-Some-clause-value t c = rw c.in-Mul.is
 pub add_multiple-loop-left-preserved : goal.add_multiple-loop-left-preserved
 add_multiple-loop-left-preserved t c =
     let (value, plain, within) = c.loop-left.invariant in
-    let parts : IsPlain (tree_of c.in-Add.a.value) × IsPlain (tree_of c.in-Add.b.value) = rw c.in-Add.is at plain in
+    let parts : IsPolynomial (tree_of c.in-Add.a.value) × IsPolynomial (tree_of c.in-Add.b.value) = rw c.in-Add.is at plain in
     let size : 1 + nodes (tree_of c.in-Add.a.value) + nodes (tree_of c.in-Add.b.value) ≤ nodes (tree_of c.args.e.now) = rw c.in-Add.is at within in
     rw c.deref-left.ensures (
       (λ x. left-more (value_at c.add_multiple.new.total.items x) (value_at c.loop-left.total.items x) (number c.args.c) (plain_value (tree_of c.in-Add.a.value) x) (plain_value (tree_of c.in-Add.b.value) x) (value_at c.args.total.now.items x +ᵛ number c.args.c *ᵛ plain_value (tree_of c.args.e.now) x)

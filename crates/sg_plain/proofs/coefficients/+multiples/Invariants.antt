@@ -2,7 +2,7 @@ use Rattle.std.proofs.Common.{◌≡◌, ◌≤◌, ◌+◌, ◌*◌}
 use Rattle.sg_algebra.proofs.Value.{Value, ◌+ᵛ◌, ◌*ᵛ◌}
 use Rattle.sg_num.specs.Value.{number}
 use Rattle.sg_spec.specs.Limits.{nodes}
-use Rattle.sg_spec.specs.Plain.{IsPlain}
+use Rattle.sg_spec.specs.Polynomials.{IsPolynomial}
 use Rattle.sg_expr.specs.Tree.{tree_of}
 use Rattle.sg_plain.specs.Evaluation.{value_at, plain_value}
 use Rattle.sg_plain.proofs.coefficients.+multiples.Given as goal
@@ -20,4 +20,4 @@ decreases-add_multiple-loop-left l = nodes (tree_of l.left)
 abbrev pub invariant-add_multiple-loop-left : goal.invariant-add_multiple-loop-left
 invariant-add_multiple-loop-left l =
     ((x : Value 0) → value_at l.total.items x +ᵛ number l.c *ᵛ plain_value (tree_of l.left) x ≡ value_at l.fn.total.items x +ᵛ number l.fn.c *ᵛ plain_value (tree_of l.fn.e) x)
-    × IsPlain (tree_of l.left) × (nodes (tree_of l.left) ≤ nodes (tree_of l.fn.e))
+    × IsPolynomial (tree_of l.left) × (nodes (tree_of l.left) ≤ nodes (tree_of l.fn.e))

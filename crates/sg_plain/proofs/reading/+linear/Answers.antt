@@ -3,7 +3,7 @@ use Rattle.std.proofs.lemmas.Int.{to_z-of_z}
 use Rattle.std.specs.Int.{w128}
 use Rattle.sg_expr.specs.Tree.{tree_of}
 use Rattle.sg_spec.specs.Limits.{degrees}
-use Rattle.sg_spec.specs.Plain.{weight}
+use Rattle.sg_spec.specs.Polynomials.{weight}
 use Rattle.sg_plain.proofs.LinearTrees.{weight_positive, linear-num, linear-here, linear-add, linear-neg, linear-mul, linear-pow, linear-unexpanded, mul-left, mul-right, pow-degree, pow-weight, pow-flat}
 use Rattle.sg_plain.proofs.Slopes.{never}
 use Rattle.sg_plain.proofs.reading.+linear.Goals as goal

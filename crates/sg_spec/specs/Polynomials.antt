@@ -1,8 +1,8 @@
--- Plain polynomials, and the canonical form of a polynomial.
---   IsPlain             built from numerals, the variable, sums, products, opposites and powers alone
+-- Polynomials in the variable, and their canonical form.
+--   IsPolynomial        built from numerals, the variable, sums, products, opposites and powers alone
 --   weight              a bound on the sizes of the coefficients: a numeral weighs its size and at least 1, the variable 1
 --   monomial c e        c times the e-th power of the variable; a factor 1 and an exponent 1 aren't written, nor is the power with exponent 0
---   joined              a sum with one more term, by its sign; a term 0 isn't written
+--   with_term           a sum with one more term, by its sign; a term 0 isn't written
 --   numerator           the sum of the terms with these coefficients, the highest first
 --   leads_below_zero    the highest coefficient that isn't 0 is below 0
 --   canonical           the tree of the polynomial with these whole coefficients, the highest first, over this denominator
@@ -11,17 +11,17 @@ use Rattle.std.specs.Prelude.{◌≡◌, ℕ, zero, suc, ◌+◌, ◌*◌, ◌^�
 use Rattle.sg_algebra.specs.Divisor.{gcd}
 use Rattle.sg_spec.specs.Tree.{Tree, numeral, here, param, add, neg, mul, div, power, sum_from, prod_from}
 
-abbrev pub IsPlain : Tree → Type 0
-IsPlain (numeral c) = Unit {0}
-IsPlain here = Unit {0}
-IsPlain param = ⊥
-IsPlain (add x y) = IsPlain x × IsPlain y
-IsPlain (neg x) = IsPlain x
-IsPlain (mul x y) = IsPlain x × IsPlain y
-IsPlain (div x y) = ⊥
-IsPlain (power x e) = IsPlain x
-IsPlain (sum_from from body) = ⊥
-IsPlain (prod_from from body) = ⊥
+abbrev pub IsPolynomial : Tree → Type 0
+IsPolynomial (numeral c) = Unit {0}
+IsPolynomial here = Unit {0}
+IsPolynomial param = ⊥
+IsPolynomial (add x y) = IsPolynomial x × IsPolynomial y
+IsPolynomial (neg x) = IsPolynomial x
+IsPolynomial (mul x y) = IsPolynomial x × IsPolynomial y
+IsPolynomial (div x y) = ⊥
+IsPolynomial (power x e) = IsPolynomial x
+IsPolynomial (sum_from from body) = ⊥
+IsPolynomial (prod_from from body) = ⊥
 
 abbrev pub weight : Tree → ℕ
 weight (numeral c) = max 1 (unsigned_abs c)
@@ -35,24 +35,24 @@ weight (power x e) = weight x ^ e
 weight (sum_from from body) = 1
 weight (prod_from from body) = 1
 
-abbrev pub raised : ℕ → Tree
-raised zero = numeral (pos 1)
-raised (suc zero) = here
-raised (suc (suc e)) = power here (suc (suc e))
+abbrev pub variable_power : ℕ → Tree
+variable_power zero = numeral (pos 1)
+variable_power (suc zero) = here
+variable_power (suc (suc e)) = power here (suc (suc e))
 
 -- the coefficient isn't 0
 abbrev pub monomial : ℕ → ℕ → Tree
 monomial c zero = numeral (pos c)
-monomial c (suc e) = cond (c == 1) (raised (suc e)) (mul (numeral (pos c)) (raised (suc e)))
+monomial c (suc e) = cond (c == 1) (variable_power (suc e)) (mul (numeral (pos c)) (variable_power (suc e)))
 
-abbrev pub joined : Tree → ℤ → ℕ → Tree
-joined t (pos zero) e = t
-joined t (pos (suc c)) e = add t (monomial (suc c) e)
-joined t (negsuc c) e = add t (neg (monomial (suc c) e))
+abbrev pub with_term : Tree → ℤ → ℕ → Tree
+with_term t (pos zero) e = t
+with_term t (pos (suc c)) e = add t (monomial (suc c) e)
+with_term t (negsuc c) e = add t (neg (monomial (suc c) e))
 
 abbrev pub with_terms : Tree → List ℤ → Tree
 with_terms t [] = t
-with_terms t (c ∷ cs) = with_terms (joined t c (length cs)) cs
+with_terms t (c ∷ cs) = with_terms (with_term t c (length cs)) cs
 
 abbrev pub numerator : List ℤ → Tree
 numerator [] = numeral (pos 0)

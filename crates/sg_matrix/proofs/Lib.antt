@@ -4,3 +4,4 @@ pub mod Spans
 pub mod Adding
 pub mod Solutions
 pub mod Unique
+pub mod Full

@@ -49,7 +49,7 @@ module _ {K : Type 0} {d : ℕ} (v : K → Value d) where
       go (inr (inl t)) = let a : e.pivot m < e.pivot l = e.ascending m l t q in omega arith
       go (inr (inr t)) = let a : e.pivot l < e.pivot m = e.ascending l m t h in omega arith
 
-  pivot_within : (w : ℕ) (bs : List (List K)) (e : IsEchelon v bs) → ((i : ℕ) → i < length bs → length (get_or bs i []) ≡ w) → (l : ℕ) → l < length bs → e.pivot l < w
+  pub pivot_within : (w : ℕ) (bs : List (List K)) (e : IsEchelon v bs) → ((i : ℕ) → i < length bs → length (get_or bs i []) ≡ w) → (l : ℕ) → l < length bs → e.pivot l < w
   pivot_within w bs e s l h = go (split (e.pivot l) w)
     where
       go : (e.pivot l < w) ⊎ (w ≤ e.pivot l) → e.pivot l < w

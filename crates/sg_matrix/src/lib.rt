@@ -7,6 +7,7 @@ mod rows;
 mod solution;
 mod vectors;
 
+pub use echelon::Echelon;
 pub use null::null_basis;
 pub use solution::Solution;
 

@@ -1,5 +1,6 @@
 use Rattle.std.proofs.Common.{arith}
 use Rattle.sg_matrix.proofs.Solutions.{columns_start, columns_free, columns_pivot, columns_full, columns_sound, columns_complete, columns_form}
+use Rattle.sg_matrix.proofs.Full.{columns_none}
 use Rattle.sg_matrix.proofs.vectors.vectors.Goals as goal
 use Rattle.sg_matrix.proofs.vectors.vectors.Goals.{in-Some, in-None+in_ok-vector-in-None+in_ok-push-in-None}
 
@@ -26,4 +27,8 @@ returns-clause-form g c = columns_form g.F.Field.val c.args.width c.args.rows.no
 
 pub returns-clause-complete : goal.returns-clause-complete
 returns-clause-complete g c = columns_complete g.F.Field.val c.args.width c.args.rows.now c.requires.echelon c.loop-k.basis c.requires.sized
+    (columns_full g.F.Field.val c.args.rows.now c.requires.echelon.pivot c.args.width c.loop-k.k c.loop-k.basis (omega arith) (c.loop-k.invariant c.requires.echelon))
+
+pub returns-clause-full : goal.returns-clause-full
+returns-clause-full g c h = columns_none g.F.Field.val c.args.width c.args.rows.now c.requires.echelon c.loop-k.basis c.requires.sized h
     (columns_full g.F.Field.val c.args.rows.now c.requires.echelon.pivot c.args.width c.loop-k.k c.loop-k.basis (omega arith) (c.loop-k.invariant c.requires.echelon))

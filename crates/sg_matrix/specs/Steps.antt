@@ -3,6 +3,8 @@
 --   IsRest v bs n given rest      `rest` is the row `given` less a combination of the rows bs, and 0 where one of the first n rows has its first entry other than 0
 --   IsAfter v bs rest j place i new  the row i when a row is added whose rest is other than 0 first at j: at `place` the rest over its entry at j, else
 --                                 the row that stood there before, less the multiple of the rest that makes its entry at j 0
+--   IsLess v b t a r              r is the row b less t times the row a
+--   IsCleared v b rest r          r is the row `rest` less the multiple of b that makes its entry 0 where b has its first entry other than 0
 --   image v bs p k i              the entry at i of the vector of the column k: the unit vector, less the entries of the rows in this column at the pivots p
 --   IsVector v bs p w k r         r is the row of width w of this vector
 use Rattle.std.specs.Prelude.{◌≡◌, ℕ, ◌<◌, List, length, map}
@@ -27,6 +29,12 @@ module _ {K : Type 0} {d : ℕ} (v : K → Value d) where
     pub size : length new ≡ length rest
     pub own : i ≡ place → (k : ℕ) → coefficient (map v new) k ≡ coefficient (map v rest) k *ᵛ inv_value (coefficient (map v rest) j)
     pub other : (m : ℕ) → i ≡ skip place m → (k : ℕ) → coefficient (map v new) k ≡ row v bs m k -ᵛ (row v bs m j *ᵛ inv_value (coefficient (map v rest) j)) *ᵛ coefficient (map v rest) k
+
+  abbrev pub IsLess : List K → K → List K → List K → Type 0
+  IsLess b t a r = (k : ℕ) → coefficient (map v r) k ≡ coefficient (map v b) k -ᵛ v t *ᵛ coefficient (map v a) k
+
+  abbrev pub IsCleared : List K → List K → List K → Type 0
+  IsCleared b rest r = (p : ℕ) → LeadsAt (coefficient (map v b)) p → (k : ℕ) → coefficient (map v r) k ≡ coefficient (map v rest) k -ᵛ coefficient (map v rest) p *ᵛ coefficient (map v b) k
 
   abbrev pub image : List (List K) → (ℕ → ℕ) → ℕ → ℕ → Value d
   image bs p k i = unit k i -ᵛ sum (ValueR d) (λ l. row v bs l k *ᵛ unit (p l) i) (length bs)

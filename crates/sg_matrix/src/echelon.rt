@@ -4,8 +4,9 @@ ghost use Rattle.sg_algebra.proofs.Polynomial.{coefficient};
 ghost use Rattle.sg_algebra.proofs.Tables.{Each, skip};
 ghost use Rattle.sg_algebra.proofs.Linear.{row_times, row, Span, table, Form};
 ghost use Rattle.sg_num.specs.Stopped.{KeepsWideStep};
+ghost use Rattle.sg_matrix.specs.NullBasis.{AreNull, SpanNull};
 ghost use Rattle.sg_matrix.specs.Systems.{LeadsAt, IsEchelon, System, system, IsSystem, SameSpan};
-ghost use Rattle.sg_matrix.specs.Steps.{IsRest, IsAfter};
+ghost use Rattle.sg_matrix.specs.Steps.{IsRest, IsAfter, IsCleared};
 
 use crate::rows::{cleared, divided, lead, leads_before};
 use crate::vectors::vectors;
@@ -82,9 +83,9 @@ impl<F: Field> Echelon<F> {
     /// these columns, with 1 in its own free column and 0 in the others. There is none where the rank is the width.
     pub fn basis(&self, alloc: Global) -> Result<Row<Row<F>>, Stop>
         ensures sized { IfOk result (λ basis. (i : ℕ) → i < length basis → length (get_or basis i []) ≡ self.now.width) }
-        ensures sound { IfOk result (λ basis. (j : ℕ) → j < length self.now.rows → (i : ℕ) → row_times (map F.val (get_or self.now.rows j [])) (coefficient (map F.val (get_or basis i []))) ≡ zero_value) }
+        ensures sound { IfOk result (AreNull F.val self.now.rows) }
         ensures form { IfOk result (λ basis. Form F.val basis) }
-        ensures complete { IfOk result (λ basis. (f : ℕ → Value F.vars) → ((k : ℕ) → self.now.width ≤ k → f k ≡ zero_value) → ((j : ℕ) → j < length self.now.rows → row_times (map F.val (get_or self.now.rows j [])) f ≡ zero_value) → Span (table F.val basis) f) }
+        ensures complete { IfOk result (SpanNull F.val self.now.width self.now.rows) }
         ensures full { IfOk result (λ basis. length self.now.rows ≡ self.now.width → basis ≡ []) }
         ensures wide { IfErr result KeepsWideStep }
     {
@@ -111,7 +112,7 @@ fn reduced<F: Field>(alloc: Global, rows: &Row<Row<F>>, given: Row<F>) -> Result
 fn less_lead<F: Field>(alloc: Global, rest: Row<F>, b: &[F]) -> Result<Row<F>, Stop>
     requires { length b.now ≡ length rest }
     ensures size { IfOk result (λ r. length r ≡ length rest) }
-    ensures value { IfOk result (λ r. (p : ℕ) → LeadsAt (coefficient (map F.val b.now)) p → (k : ℕ) → coefficient (map F.val r) k ≡ coefficient (map F.val rest) k -ᵛ coefficient (map F.val rest) p *ᵛ coefficient (map F.val b.now) k) }
+    ensures value { IfOk result (IsCleared F.val b.now rest) }
     ensures wide { IfErr result KeepsWideStep }
 {
     match lead(b) {

@@ -3,6 +3,7 @@ ghost use Rattle.sg_algebra.proofs.Value.{◌-ᵛ◌, ◌*ᵛ◌, inv_value, zer
 ghost use Rattle.sg_algebra.proofs.Polynomial.{coefficient};
 ghost use Rattle.sg_num.specs.Stopped.{KeepsWideStep};
 ghost use Rattle.sg_matrix.specs.Systems.{LeadsAt};
+ghost use Rattle.sg_matrix.specs.Steps.{IsLess};
 
 use sg_num::{Field, Row, Stop};
 use std::alloc::Global;
@@ -75,7 +76,7 @@ pub(crate) fn divided<F: Field>(alloc: Global, r: &[F], t: &F) -> Result<Row<F>,
 pub(crate) fn cleared<F: Field>(alloc: Global, b: &[F], t: &F, other: &[F]) -> Result<Row<F>, Stop>
     requires { length other.now ≡ length b.now }
     ensures size { IfOk result (λ r. length r ≡ length b.now) }
-    ensures value { IfOk result (λ r. (k : ℕ) → coefficient (map F.val r) k ≡ coefficient (map F.val b.now) k -ᵛ F.val t.now *ᵛ coefficient (map F.val other.now) k) }
+    ensures value { IfOk result (IsLess F.val b.now t.now other.now) }
     ensures wide { IfErr result KeepsWideStep }
 {
     let mut row = Row::new(alloc);

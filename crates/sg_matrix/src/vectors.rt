@@ -3,6 +3,7 @@ ghost use Rattle.sg_algebra.proofs.Value.{Value, zero_value};
 ghost use Rattle.sg_algebra.proofs.Polynomial.{coefficient};
 ghost use Rattle.sg_algebra.proofs.Linear.{row_times, row, Span, table, Form};
 ghost use Rattle.sg_num.specs.Stopped.{KeepsWideStep};
+ghost use Rattle.sg_matrix.specs.NullBasis.{AreNull, SpanNull};
 ghost use Rattle.sg_matrix.specs.Systems.{LeadsAt, IsEchelon, IsSystem};
 ghost use Rattle.sg_matrix.specs.Steps.{IsFree, IsVector, image};
 
@@ -77,9 +78,9 @@ pub(crate) fn vectors<F: Field>(
 ) -> Result<Row<Row<F>>, Stop>
     requires { IsSystem F.val width rows.now }
     ensures sized { IfOk result (λ basis. (i : ℕ) → i < length basis → length (get_or basis i []) ≡ width) }
-    ensures sound { IfOk result (λ basis. (j : ℕ) → j < length rows.now → (i : ℕ) → row_times (map F.val (get_or rows.now j [])) (coefficient (map F.val (get_or basis i []))) ≡ zero_value) }
+    ensures sound { IfOk result (AreNull F.val rows.now) }
     ensures form { IfOk result (λ basis. Form F.val basis) }
-    ensures complete { IfOk result (λ basis. (f : ℕ → Value F.vars) → ((k : ℕ) → width ≤ k → f k ≡ zero_value) → ((j : ℕ) → j < length rows.now → row_times (map F.val (get_or rows.now j [])) f ≡ zero_value) → Span (table F.val basis) f) }
+    ensures complete { IfOk result (SpanNull F.val width rows.now) }
     ensures full { IfOk result (λ basis. length rows.now ≡ width → basis ≡ []) }
     ensures wide { IfErr result KeepsWideStep }
 {

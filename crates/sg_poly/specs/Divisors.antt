@@ -2,7 +2,8 @@
 --   c ∣ᵖ p         c divides p: p is c times a polynomial
 --   IsMonic p      the polynomial with the coefficients p has the leading coefficient 1
 --   IsDivision p w q r    p divided by w, whose last coefficient isn't 0, gives the quotient q and the rest r, which has fewer coefficients than w
---   IsOnlyDivision v p w q r    each quotient and rest of that kind are q and r, where `v` says which values the items stand for
+--   IsQuotient v p w q r  p is w times q and the rest r, where `v` says which values the items stand for
+--   IsOnlyDivision v p w q r    each quotient and rest of p by w are q and r
 --   IsStep v a p t w r     r is a and then p, less t times w, below the last coefficient of w
 --   IsGcd g p q    g divides p and q, and each polynomial that divides both divides g
 use Rattle.std.specs.Prelude.{◌≡◌, ℕ, ◌<◌, List, ◌∷◌, length, map}
@@ -25,6 +26,9 @@ pub record IsDivision {d : ℕ} (p w q r : List (Value d)) : Type 0 where
   pub smaller : length r < length w
 
 module _ {K : Type 0} {d : ℕ} (v : K → Value d) where
+  abbrev pub IsQuotient : List K → List K → List K → List K → Type 0
+  IsQuotient p w q r = polynomial v p ≡ polynomial v q *ᵖ polynomial v w +ᵖ polynomial v r
+
   abbrev pub IsOnlyDivision : List K → List K → List K → List K → Type 0
   IsOnlyDivision p w q r = (x y : List (Value d)) → IsDivision (map v p) (map v w) x y → (poly x ≡ polynomial v q) × (poly y ≡ polynomial v r)
 

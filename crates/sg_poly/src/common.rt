@@ -1,9 +1,9 @@
 //! Common divisors: linear factors that the field guesses are divided off, and what is left goes through Euclid's divisions.
 ghost use Rattle.std.specs.Prelude.{◌≡◌, ◌≤◌, ◌<◌, length, map, All, IfOk, IfErr, IfSome, IsTrue};
 ghost use Rattle.sg_algebra.proofs.Value.{zero_value};
-ghost use Rattle.sg_algebra.proofs.Polynomial.{◌+ᵖ◌, ◌*ᵖ◌, zero_polynomial};
+ghost use Rattle.sg_algebra.proofs.Polynomial.{zero_polynomial};
 ghost use Rattle.sg_num.specs.Stopped.{KeepsWideStep};
-ghost use Rattle.sg_poly.specs.Divisors.{IsGcd, IsMonic};
+ghost use Rattle.sg_poly.specs.Divisors.{IsGcd, IsMonic, IsQuotient};
 ghost use Rattle.sg_poly.specs.Polynomials.{polynomial, polynomial_at};
 ghost use Rattle.sg_poly.specs.Splits.{AreRests, AreLess};
 
@@ -216,7 +216,7 @@ struct Trial<F: Field> {
 // The division by a factor; None where a step of it doesn't fit.
 fn tried<F: Field>(alloc: Global, p: &Poly<F>, factor: &Poly<F>) -> Result<Option<Trial<F>>, Stop>
     requires { ¬ (polynomial F.val factor.now ≡ zero_polynomial) }
-    ensures value { IfOk result (λ o. IfSome o (λ t. polynomial F.val p.now ≡ polynomial F.val t.quotient *ᵖ polynomial F.val factor.now +ᵖ polynomial F.val t.rest)) }
+    ensures value { IfOk result (λ o. IfSome o (λ t. IsQuotient F.val p.now factor.now t.quotient t.rest)) }
     ensures smaller { IfOk result (λ o. IfSome o (λ t. length t.rest < length factor.now)) }
     ensures wide { IfErr result KeepsWideStep }
 {

@@ -6,7 +6,7 @@ ghost use Rattle.sg_algebra.proofs.Rational.{whole_value};
 ghost use Rattle.sg_algebra.proofs.Shift.{moved};
 ghost use Rattle.sg_algebra.proofs.Polynomial.{Polynomial, poly, coefficient, ◌+ᵖ◌, ◌*ᵖ◌, zero_polynomial, constant, EndsNonzero};
 ghost use Rattle.sg_num.specs.Stopped.{KeepsWideStep};
-ghost use Rattle.sg_poly.specs.Divisors.{◌∣ᵖ◌, IsMonic, IsOnlyDivision, IsStep};
+ghost use Rattle.sg_poly.specs.Divisors.{◌∣ᵖ◌, IsMonic, IsQuotient, IsOnlyDivision, IsStep};
 ghost use Rattle.sg_poly.specs.Polynomials.{polynomial, polynomial_at, over_lead};
 
 use crate::poly::Poly;
@@ -17,7 +17,7 @@ impl<F: Field> Poly<F> {
     /// The quotient and the rest of the division by `other`, which isn't 0; the rest has a lower degree than `other`, or is 0.
     pub fn div_rem(&self, alloc: Global, other: &Poly<F>) -> Result<(Poly<F>, Poly<F>), Stop>
         requires { ¬ (polynomial F.val other.now ≡ zero_polynomial) }
-        ensures value { IfOk result (λ r. polynomial F.val self.now ≡ polynomial F.val r.0 *ᵖ polynomial F.val other.now +ᵖ polynomial F.val r.1) }
+        ensures value { IfOk result (λ r. IsQuotient F.val self.now other.now r.0 r.1) }
         ensures smaller { IfOk result (λ r. length r.1 < length other.now) }
         ensures unique { IfOk result (λ r. IsOnlyDivision F.val self.now other.now r.0 r.1) }
         ensures wide { IfErr result KeepsWideStep }
@@ -108,7 +108,7 @@ fn divided_long<F: Field>(alloc: Global, p: &[F], w: &[F]) -> Result<Parts<F>, S
     requires ends { EndsNonzero (map F.val w.now) }
     requires some { 0 < length w.now }
     requires long { length w.now ≤ length p.now }
-    ensures value { IfOk result (λ r. polynomial F.val p.now ≡ polynomial F.val r.quotient *ᵖ polynomial F.val w.now +ᵖ polynomial F.val r.rest) }
+    ensures value { IfOk result (λ r. IsQuotient F.val p.now w.now r.quotient r.rest) }
     ensures size { IfOk result (λ r. length r.rest < length w.now) }
     ensures wide { IfErr result KeepsWideStep }
 {
@@ -131,7 +131,7 @@ fn divided_long<F: Field>(alloc: Global, p: &[F], w: &[F]) -> Result<Parts<F>, S
 fn divided<F: Field>(alloc: Global, p: &[F], w: &[F]) -> Result<Parts<F>, Stop>
     requires ends { EndsNonzero (map F.val w.now) }
     requires some { 0 < length w.now }
-    ensures value { IfOk result (λ r. polynomial F.val p.now ≡ polynomial F.val r.quotient *ᵖ polynomial F.val w.now +ᵖ polynomial F.val r.rest) }
+    ensures value { IfOk result (λ r. IsQuotient F.val p.now w.now r.quotient r.rest) }
     ensures size { IfOk result (λ r. length r.rest < length w.now) }
     ensures wide { IfErr result KeepsWideStep }
 {

@@ -413,3 +413,54 @@ fn makes_simple_polynomials(rt: HostRuntime) {
     };
     assert!(rt; found);
 }
+
+// The product of k + c over `count` numbers c from -200 to 200 that leave `class` when 200 is added and they are divided by 3.
+fn drawn_product(
+    alloc: Global,
+    state: &mut u32,
+    count: u32,
+    class: u32,
+) -> Result<Poly<Rat>, Stop> {
+    let mut p = Poly::one(alloc)?;
+    for _ in 0..count {
+        *state = state.wrapping_mul(1664525).wrapping_add(1013904223);
+        let c = (((*state >> 16) % 133) * 3).wrapping_add(class);
+        let factor = Poly::linear(alloc, &Rat::whole(200 - c as i128))?;
+        p = p.mul(alloc, &factor)?;
+    }
+    Ok(p)
+}
+
+// Whether the greatest common divisor of x z and y z is z, where x, y and z have no factor in common.
+fn finds_drawn(alloc: Global, state: &mut u32, count: u32, common: u32) -> Result<bool, Stop> {
+    let z = drawn_product(alloc, state, common, 0)?;
+    let x = drawn_product(alloc, state, count, 1)?.mul(alloc, &z)?;
+    let y = drawn_product(alloc, state, count, 2)?.mul(alloc, &z)?;
+    if x.is_zero() {
+        return Ok(false);
+    }
+    let g = x.gcd(alloc, &y)?;
+    g.same(alloc, &z)
+}
+
+#[test]
+fn finds_common_factors_of_drawn_products(rt: HostRuntime) {
+    let mut state = 3u32;
+    for (count, common) in [
+        (2, 0),
+        (2, 2),
+        (4, 0),
+        (3, 3),
+        (6, 2),
+        (4, 4),
+        (8, 0),
+        (5, 3),
+        (7, 1),
+        (8, 0),
+    ] {
+        assert!(rt;
+            matches!(finds_drawn(rt.alloc(), &mut state, count, common), Ok(true)),
+            "{count} and {common}"
+        );
+    }
+}

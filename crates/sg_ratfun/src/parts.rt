@@ -1,9 +1,9 @@
 ghost use Rattle.std.specs.Prelude.{◌≡◌, length, map, IfOk, IfErr};
 ghost use Rattle.sg_algebra.proofs.Value.{over_value, ◌+ᵛ◌, ◌-ᵛ◌, ◌*ᵛ◌, ◌/ᵛ◌, one_value};
-ghost use Rattle.sg_algebra.proofs.Polynomial.{poly, ◌+ᵖ◌, ◌-ᵖ◌, ◌*ᵖ◌, zero_polynomial};
+ghost use Rattle.sg_algebra.proofs.Polynomial.{◌*ᵖ◌, zero_polynomial};
 ghost use Rattle.sg_num.specs.Stopped.{KeepsWideStep};
 ghost use Rattle.sg_poly.specs.Polynomials.{polynomial};
-ghost use Rattle.sg_ratfun.specs.Fractions.{quotient_of};
+ghost use Rattle.sg_ratfun.specs.Fractions.{quotient_of, cross_sum, cross_difference};
 ghost use Rattle.sg_ratfun.specs.Reduced.{IsReduced};
 
 use crate::split::{lead_inverse, split};
@@ -61,7 +61,7 @@ fn crossed_sum<F: Field>(
     c: &Poly<F>,
     e: &Poly<F>,
 ) -> Result<Poly<F>, Stop>
-    ensures value { IfOk result (λ n. polynomial F.val n ≡ polynomial F.val a.now *ᵖ polynomial F.val e.now +ᵖ polynomial F.val c.now *ᵖ polynomial F.val b.now) }
+    ensures value { IfOk result (λ n. polynomial F.val n ≡ cross_sum F.val a.now b.now c.now e.now) }
     ensures wide { IfErr result KeepsWideStep }
 {
     let x = a.mul(alloc, e)?;
@@ -78,7 +78,7 @@ fn crossed_difference<F: Field>(
     c: &Poly<F>,
     e: &Poly<F>,
 ) -> Result<Poly<F>, Stop>
-    ensures value { IfOk result (λ n. polynomial F.val n ≡ polynomial F.val a.now *ᵖ polynomial F.val e.now -ᵖ polynomial F.val c.now *ᵖ polynomial F.val b.now) }
+    ensures value { IfOk result (λ n. polynomial F.val n ≡ cross_difference F.val a.now b.now c.now e.now) }
     ensures wide { IfErr result KeepsWideStep }
 {
     let x = a.mul(alloc, e)?;

@@ -1,11 +1,11 @@
 ghost use Rattle.std.specs.Prelude.{◌≡◌, suc, ◌<◌, ◌≤◌, ◌+◌, [], ◌∷◌, ◌++◌, length, map, take, drop, IfOk, IfErr, IfSome, IsFalse, false};
-ghost use Rattle.sg_algebra.proofs.Value.{zero_value, ◌/ᵛ◌};
+ghost use Rattle.sg_algebra.proofs.Value.{zero_value};
 ghost use Rattle.sg_algebra.proofs.Place.{Pairwise, HasValue};
 ghost use Rattle.sg_num.specs.Probe.{IsProbe};
 ghost use Rattle.sg_num.specs.Stopped.{KeepsWideStep};
 ghost use Rattle.sg_num.specs.Value.{number};
 ghost use Rattle.sg_poly.specs.Polynomials.{polynomial_at};
-ghost use Rattle.sg_ratfun.specs.Fractions.{ratio};
+ghost use Rattle.sg_ratfun.specs.Fractions.{ratio, quotient_at};
 ghost use Rattle.sg_ratfun.specs.Gathered.{coefficients, ItemsAt};
 
 use crate::ratfun::RatFun;
@@ -114,7 +114,7 @@ fn item_from(
 ) -> Result<Option<Rat>, Stop>
     requires { (at + n) + m ≤ length values.now }
     ensures defined { IfOk result (λ o. IfSome o (λ _. ¬ (polynomial_at number (take m (drop (at + n) values.now)) (number x) ≡ zero_value))) }
-    ensures value { IfOk result (λ o. IfSome o (λ v. number v ≡ polynomial_at number (take n (drop at values.now)) (number x) /ᵛ polynomial_at number (take m (drop (at + n) values.now)) (number x))) }
+    ensures value { IfOk result (λ o. IfSome o (λ v. number v ≡ quotient_at number (take n (drop at values.now)) (take m (drop (at + n) values.now)) (number x))) }
     ensures nonzero { IfOk result (λ o. IfSome o (λ v. zero ≡ false → ¬ (number v ≡ zero_value))) }
     ensures wide { IfErr result KeepsWideStep }
 {
@@ -134,7 +134,7 @@ fn item_at(
     x: Rat,
 ) -> Result<Option<Rat>, Stop>
     ensures defined { IfOk result (λ o. IfSome o (λ _. ¬ (polynomial_at number lower.now (number x) ≡ zero_value))) }
-    ensures value { IfOk result (λ o. IfSome o (λ v. number v ≡ polynomial_at number upper.now (number x) /ᵛ polynomial_at number lower.now (number x))) }
+    ensures value { IfOk result (λ o. IfSome o (λ v. number v ≡ quotient_at number upper.now lower.now (number x))) }
     ensures nonzero { IfOk result (λ o. IfSome o (λ v. zero ≡ false → ¬ (number v ≡ zero_value))) }
     ensures wide { IfErr result KeepsWideStep }
 {

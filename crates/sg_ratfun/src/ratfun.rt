@@ -1,12 +1,12 @@
 ghost use Rattle.std.specs.Prelude.{◌≡◌, [], ◌∷◌, map, IfOk, IfErr, IfSome, IfNone, ℤ};
-ghost use Rattle.sg_algebra.proofs.Value.{Value, over_value, zero_value, one_value, ◌/ᵛ◌};
+ghost use Rattle.sg_algebra.proofs.Value.{Value, over_value, zero_value, one_value};
 ghost use Rattle.sg_algebra.proofs.Embedding.{constant_value};
 ghost use Rattle.sg_algebra.proofs.Rational.{whole_value};
 ghost use Rattle.sg_algebra.proofs.Polynomial.{coefficient, zero_polynomial, one_polynomial};
 ghost use Rattle.sg_num.specs.Stopped.{KeepsWideStep};
 ghost use Rattle.sg_poly.specs.Divisors.{IsMonic};
 ghost use Rattle.sg_poly.specs.Polynomials.{polynomial, polynomial_at};
-ghost use Rattle.sg_ratfun.specs.Fractions.{ratio, quotient_of, moved_ratio};
+ghost use Rattle.sg_ratfun.specs.Fractions.{ratio, quotient_of, quotient_at, moved_ratio};
 ghost use Rattle.sg_ratfun.specs.Reduced.{IsReduced};
 
 use crate::parts::{Parts, lowest};
@@ -136,7 +136,7 @@ impl<F: Field> RatFun<F> {
 
     /// The value at `x`; None exactly where the denominator is 0 there.
     pub fn value(&self, alloc: Global, x: &F) -> Result<Option<F>, Stop>
-        ensures some { IfOk result (λ o. IfSome o (λ v. F.val v ≡ polynomial_at F.val self.now.0 (F.val x.now) /ᵛ polynomial_at F.val self.now.1 (F.val x.now))) }
+        ensures some { IfOk result (λ o. IfSome o (λ v. F.val v ≡ quotient_at F.val self.now.0 self.now.1 (F.val x.now))) }
         ensures defined { IfOk result (λ o. IfSome o (λ _. ¬ (polynomial_at F.val self.now.1 (F.val x.now) ≡ zero_value))) }
         ensures none { IfOk result (λ o. IfNone o (polynomial_at F.val self.now.1 (F.val x.now) ≡ zero_value)) }
         ensures wide { IfErr result KeepsWideStep }

@@ -1,9 +1,11 @@
 pub mod Rows
 pub mod Powers
 pub mod Vanishing
-pub mod Steps
-pub mod Values
-pub mod Scanned
 pub mod Meeting
 pub mod Candidates
 pub mod Confirmed
+pub mod Apart
+pub mod Lists
+pub mod Parts
+pub mod Splitting
+pub mod Radicals

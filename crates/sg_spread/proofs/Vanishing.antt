@@ -15,7 +15,7 @@ use Rattle.sg_num.specs.declared.rat.Rat.{Rat}
 use Rattle.sg_theory.proofs.Certificate.{Certificate}
 use Rattle.sg_theory.proofs.ValueCertificate.{root_of_common}
 use Rattle.sg_spread.specs.Powers.{IsSome}
-use Rattle.sg_spread.specs.Roots.{IsRoot}
+use Rattle.sg_num.specs.Roots.{IsRoot}
 
 pub list_nonzero : (p q : List (Value 0)) → IsSome q → poly p ≡ poly q → ¬ (poly p ≡ zero_polynomial)
 list_nonzero p q s e z = s.some (same_poly q [] (sym e ∙ z) s.place)

@@ -1,3 +1,4 @@
 pub mod Powers
-pub mod Roots
 pub mod Shifts
+pub mod Splits
+pub mod Lists

@@ -6,7 +6,7 @@ ghost use Rattle.sg_algebra.proofs.Rows.{Builds};
 ghost use Rattle.sg_num.specs.Stopped.{KeepsWideStep};
 ghost use Rattle.sg_num.specs.Value.{number};
 ghost use Rattle.sg_theory.proofs.Certificate.{Certificate};
-ghost use Rattle.sg_spread.specs.Powers.{ArePowers, IsNullBasis, IsSome};
+ghost use Rattle.sg_spread.specs.Powers.{ArePowers, AreColumns, IsNullBasis, IsSome};
 
 use crate::step::{first_row, row_after};
 use sg_matrix::null_basis;
@@ -29,7 +29,7 @@ fn column(alloc: Global, rows: &[Row<Rat>], p: usize) -> Result<Row<Rat>, AllocE
 fn table(alloc: Global, rows: &[Row<Rat>], size: usize) -> Result<Row<Row<Rat>>, AllocError>
     requires { (t : ℕ) → t < length rows.now → length (get_or rows.now t []) ≡ size }
     ensures size { IfOk result (λ r. length r ≡ size) }
-    ensures rows { IfOk result (λ r. (p : ℕ) → p < size → Builds number (λ t. coefficient (map number (get_or rows.now t [])) p) (length rows.now) (get_or r p [])) }
+    ensures rows { IfOk result (AreColumns rows.now size) }
 {
     let mut all = Row::new(alloc);
     for p in 0..size {

@@ -2,10 +2,11 @@
 #![tactic(auto)]
 
 mod certificate;
-mod clear;
-mod roots;
-mod scan;
+mod elimination;
+mod meetings;
+mod radical;
 mod shifts;
+mod split;
 mod step;
 
 pub use shifts::spread;

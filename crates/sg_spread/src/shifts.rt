@@ -7,125 +7,20 @@ ghost use Rattle.sg_algebra.proofs.Shift.{moved};
 ghost use Rattle.sg_algebra.proofs.ValueField.{ValueR};
 ghost use Rattle.sg_num.specs.Stopped.{KeepsWideStep};
 ghost use Rattle.sg_num.specs.Value.{number};
-ghost use Rattle.sg_spread.specs.Roots.{IsRoot};
+ghost use Rattle.sg_num.specs.Roots.{IsRoot};
 ghost use Rattle.sg_spread.specs.Shifts.{Meets, AreShifts, IsConfirmed};
 
-use crate::certificate::certificate;
-use crate::roots::whole_roots;
-use sg_num::{Field, Rat, Row, Stop};
+use crate::elimination::{confirmed, joined};
+use crate::meetings::shifts_of_values;
+use sg_num::{Field, Row, Stop};
 use sg_poly::Poly;
 use std::alloc::Global;
 
-// Adds copies of these items.
-fn push_copies<F: Field>(alloc: Global, row: &mut Row<F>, list: &[F]) -> Result<(), Stop>
-    ensures value { OnOk result (map F.val row.new ≡ map F.val row.old ++ map F.val list.now) }
-    ensures wide { IfErr result KeepsWideStep }
-{
-    for i in 0..list.len() {
-        let item = list[i].copy(alloc)?;
-        row.push(item)?;
-    }
-    Ok(())
-}
-
-// The items of both, one list after the other.
-fn joined<F: Field>(alloc: Global, a: &[F], b: &[F]) -> Result<Row<F>, Stop>
-    ensures value { IfOk result (λ r. map F.val r ≡ map F.val a.now ++ map F.val b.now) }
-    ensures wide { IfErr result KeepsWideStep }
-{
-    let mut row = Row::new(alloc);
-    push_copies(alloc, &mut row, a)?;
-    push_copies(alloc, &mut row, b)?;
-    Ok(row)
-}
-
-// A polynomial other than 0 that is 0 wherever two monic polynomials over the fractions meet: the first n numbers are the
-// coefficients of the one, the others those of the other.
-fn vanishing(alloc: Global, values: &[Rat], n: usize) -> Result<Poly<Rat>, Stop>
-    requires some { 1 < n }
-    requires others { n + 1 < length values.now }
-    ensures some { IfOk result (λ p. ¬ (poly (map number p) ≡ zero_polynomial)) }
-    ensures roots { IfOk result (λ p. Monic (ValueR 0) (n - 1) (map number (take n values.now)) → Monic (ValueR 0) (length values.now - n - 1) (map number (drop n values.now)) → (m : ℤ) → ¬ Coprime (PolynomialR 0) (poly (map number (take n values.now))) (poly (moved (ValueR 0) (whole_value 0 m) (map number (drop n values.now)))) → IsRoot (map number p) m) }
-    ensures wide { IfErr result KeepsWideStep }
-{
-    let (a, b) = values.split_at(n);
-    let list = certificate(alloc, a, b)?;
-    let p = Poly::from_coeffs(alloc, list)?;
-    Ok(p)
-}
-
-// Whole numbers in ascending order, among them each m at which two monic polynomials a(k) and b(k+m) aren't coprime. All
-// steps are taken over the fractions, at values of the coefficients.
-fn candidates<F: Field>(alloc: Global, a: &Poly<F>, b: &Poly<F>) -> Result<Row<i128>, Stop>
-    requires some { 1 < length a.now }
-    requires others { 1 < length b.now }
-    requires left { Monic (ValueR F.vars) (length a.now - 1) (map F.val a.now) }
-    requires right { Monic (ValueR F.vars) (length b.now - 1) (map F.val b.now) }
-    ensures ascending { IfOk result (AllPairs ◌<ℤ◌) }
-    ensures all { IfOk result (λ r. (m : ℤ) → ¬ Coprime (PolynomialR F.vars) (poly (map F.val a.now)) (poly (moved (ValueR F.vars) (whole_value F.vars m) (map F.val b.now))) → Contains r m) }
-    ensures wide { IfErr result KeepsWideStep }
-{
-    let list = joined(alloc, a.coeffs(), b.coeffs())?;
-    let probe = F::probe(alloc, &list)?;
-    let p = vanishing(alloc, probe.values.as_slice(), a.coeffs().len())?;
-    let roots = whole_roots(alloc, &p)?;
-    Ok(roots)
-}
-
-// Whether a(k) and b(k+m) have a common divisor of positive degree.
-fn meet<F: Field>(alloc: Global, a: &Poly<F>, b: &Poly<F>, m: i128) -> Result<bool, Stop>
-    requires some { ¬ (poly (map F.val a.now) ≡ zero_polynomial) }
-    ensures value { IfOk result (λ r. IsTrue r ↔ Meets (map F.val a.now) (map F.val b.now) m) }
-    ensures wide { IfErr result KeepsWideStep }
-{
-    let shifted = b.shift_by(alloc, m)?;
-    let common = a.gcd(alloc, &shifted)?;
-    Ok(common.coeffs().len() > 1)
-}
-
-// Adds a number where the two meet there.
-fn confirm<F: Field>(
-    alloc: Global,
-    a: &Poly<F>,
-    b: &Poly<F>,
-    m: i128,
-    shifts: &mut Row<i128>,
-) -> Result<(), Stop>
-    requires some { ¬ (poly (map F.val a.now) ≡ zero_polynomial) }
-    ensures value { OnOk result (IsConfirmed (map F.val a.now) (map F.val b.now) m shifts.old shifts.new) }
-    ensures wide { IfErr result KeepsWideStep }
-{
-    if meet(alloc, a, b, m)? {
-        shifts.push(m)?;
-    }
-    Ok(())
-}
-
-// Those of the candidates at which the two meet.
-fn confirmed<F: Field>(
-    alloc: Global,
-    a: &Poly<F>,
-    b: &Poly<F>,
-    candidates: &[i128],
-) -> Result<Row<i128>, Stop>
-    requires some { ¬ (poly (map F.val a.now) ≡ zero_polynomial) }
-    requires ascending { AllPairs ◌<ℤ◌ candidates.now }
-    ensures value { IfOk result (λ r. AreShifts (map F.val a.now) (map F.val b.now) candidates.now r) }
-    ensures wide { IfErr result KeepsWideStep }
-{
-    let mut shifts = Row::new(alloc);
-    for i in 0..candidates.len() {
-        let m = candidates[i];
-        confirm(alloc, a, b, m, &mut shifts)?;
-    }
-    Ok(shifts)
-}
-
 /// The shifts at which two polynomials meet, in ascending order: the whole m, of any size, for which a(k) and b(k+m) have a
-/// common divisor of positive degree. They are looked for among the whole roots of a polynomial over the fractions, at
-/// values of the coefficients (Abramov 1971; the resultant in m would be one such polynomial), and each is confirmed by a
-/// greatest common divisor. It stops at a kept step that doesn't fit or for want of memory; the latter also where more than
-/// 2^20 numbers would be tried.
+/// common divisor of positive degree. They are looked for at values of the coefficients: whole roots are split off, whose
+/// differences are shifts, and what is left is taken by an elimination (Abramov 1971; the resultant in m would serve as
+/// well). Over a field with variables each is confirmed by a greatest common divisor. It stops at a kept step that doesn't
+/// fit or for want of memory; the latter also where more than 2^20 numbers would be tried.
 pub fn spread<F: Field>(alloc: Global, a: &Poly<F>, b: &Poly<F>) -> Result<Row<i128>, Stop>
     requires left { ¬ (poly (map F.val a.now) ≡ zero_polynomial) }
     requires right { ¬ (poly (map F.val b.now) ≡ zero_polynomial) }
@@ -141,7 +36,12 @@ pub fn spread<F: Field>(alloc: Global, a: &Poly<F>, b: &Poly<F>) -> Result<Row<i
     if right.coeffs().len() < 2 {
         return Ok(Row::new(alloc));
     }
-    let all = candidates(alloc, &left, &right)?;
+    let list = joined(alloc, left.coeffs(), right.coeffs())?;
+    let probe = F::probe(alloc, &list)?;
+    let all = shifts_of_values(alloc, probe.values.as_slice(), left.coeffs().len())?;
+    if probe.args.is_empty() {
+        return Ok(all);
+    }
     let shifts = confirmed(alloc, a, b, all.as_slice())?;
     Ok(shifts)
 }

@@ -7,7 +7,7 @@ ghost use Rattle.sg_algebra.proofs.Polynomial.{coefficient};
 ghost use Rattle.sg_algebra.proofs.Rows.{Builds};
 ghost use Rattle.sg_num.specs.Stopped.{KeepsWideStep};
 ghost use Rattle.sg_num.specs.Value.{number};
-ghost use Rattle.sg_theory.proofs.StepRow.{step_at};
+ghost use Rattle.sg_spread.specs.Powers.{step_of};
 
 use sg_num::{Field, Rat, Row, Stop};
 use std::alloc::{AllocError, Global};
@@ -72,7 +72,7 @@ fn item_after(alloc: Global, a: &[Rat], b: &[Rat], row: &[Rat], p: usize) -> Res
     requires others { 1 < length b.now }
     requires size { length row.now ≡ (length a.now - 1) * (length b.now - 1) }
     requires within { p < length row.now }
-    ensures value { IfOk result (λ r. number r ≡ step_at (ValueR 0) (length a.now - 1) (length b.now - 1) (map number a.now) (map number b.now) (map number row.now) p) }
+    ensures value { IfOk result (λ r. number r ≡ step_of a.now b.now row.now p) }
     ensures wide { IfErr result KeepsWideStep }
 {
     let d = a.len() - 1;
@@ -91,7 +91,7 @@ pub(crate) fn row_after(alloc: Global, a: &[Rat], b: &[Rat], row: &[Rat]) -> Res
     requires some { 1 < length a.now }
     requires others { 1 < length b.now }
     requires size { length row.now ≡ (length a.now - 1) * (length b.now - 1) }
-    ensures built { IfOk result (λ r. Builds number (step_at (ValueR 0) (length a.now - 1) (length b.now - 1) (map number a.now) (map number b.now) (map number row.now)) (length row.now) r) }
+    ensures built { IfOk result (λ r. Builds number (step_of a.now b.now row.now) (length row.now) r) }
     ensures wide { IfErr result KeepsWideStep }
 {
     let mut new = Row::new(alloc);

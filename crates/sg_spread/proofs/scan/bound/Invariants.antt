@@ -1,8 +1,0 @@
-use Rattle.std.proofs.Common.{◌<◌, ◌-◌}
-use Rattle.sg_spread.proofs.scan.bound.Given as goal
-
-abbrev pub invariant-loop-b : goal.invariant-loop-b
-invariant-loop-b l = 0 < l.b
-
-abbrev pub decreases-loop-b : goal.decreases-loop-b
-decreases-loop-b l = 524289 - l.b

@@ -1,2 +1,6 @@
-//! The theory of towers of products and sums: the ring of a formal tower, its shift, and all solutions of telescoping equations in it. It has no code.
+//! The theory of towers of products and sums. It has no code.
+//!
+//! Entry points, in `proofs/`: `Formal` (formal towers, independence, only constants are fixed, the laws), `Degrees` (the degree bound), `Slices`
+//! with `Starting`, `PowerSlices` and `ProductSlices` (all solutions of telescoping equations, slice by slice), `Monomials` and `Flat` (elements
+//! as lists of terms). `Difference` has the words for equations and their solutions. `docs/methods/tower.md` says how they hang together.
 #![tactic(auto)]

@@ -1,18 +1,19 @@
 -- A closed form gives an expression that telescopes: h - f, since h(k + 1) - f(k + 1) is h(k).
 --   sum_next         a plain sum with one more term
 --   closed_tele      so where there is a closed form, some expression over the sums telescopes f in values
-use Rattle.std.proofs.Common.{◌≡◌, ℕ, refl, sym, ◌∙◌, ap, ap₂, subst, [], ◌∷◌, ℤ, pos, ◌+ℤ◌, ◌-ℤ◌, ◌≤ℤ◌, Option, Some, None, arith}
+use Rattle.std.proofs.Common.{◌≡◌, ℕ, refl, sym, ◌∙◌, ap, ap₂, subst, [], ◌∷◌, ℤ, pos, ◌+ℤ◌, ◌-ℤ◌, ◌≤ℤ◌, Option, arith}
 use Rattle.std.proofs.lemmas.Int.{ints}
 use Rattle.sg_algebra.proofs.Solver.{ring, reads}
 use Rattle.sg_algebra.proofs.Value.{Value, ◌+ᵛ◌, ◌-ᵛ◌, neg_value}
 use Rattle.sg_algebra.proofs.ValueField.{ValueR}
 use Rattle.sg_spec.specs.Fraction.{Fraction}
 use Rattle.sg_spec.specs.Tree.{Tree, add, neg, sum_from}
+use Rattle.sg_spec.specs.Generators.{Allowed, BuiltOver}
 use Rattle.sg_spec.specs.Value.{val, both, sum_of, opposite_of, SameValue, total}
 use Rattle.sg_values.proofs.Totals.{from_on, total-step}
 use Rattle.sg_values.proofs.Values.{IsProper, val-proper}
-use Rattle.sg_values.proofs.Worth.{number_of, Worth, worth_same, same_worth, worth-sum, worth-opposite}
-use Rattle.sg_value_theory.proofs.NumberParts.{HasNumber, number_unique, both_parts}
+use Rattle.sg_values.proofs.Worth.{Worth, worth_same, same_worth, worth-sum, worth-opposite}
+use Rattle.sg_value_theory.proofs.NumberParts.{right_number, HasNumber, number_unique, both_parts}
 use Rattle.sg_spec.specs.Telescoping.{difference_of, Tele}
 use Rattle.sg_value_theory.proofs.Joined.{worth-difference, difference_proper}
 
@@ -37,11 +38,6 @@ module _ (f h : Tree) (a s : ℤ) (starts : (a -ℤ pos 1) ≤ℤ s) (same : (m 
 
   proper : (t : Tree) (k : ℤ) → IsProper (val t (pos 0) k)
   proper t k = val-proper t (pos 0) k
-
-  right_number : (u v : Option Fraction) → SameValue u v → HasNumber v
-  right_number (Some x) (Some y) h = (number_of y, refl)
-  right_number (Some x) None h = absurd h
-  right_number None v h = absurd h
 
   sum_number : (m : ℤ) → s ≤ℤ m → HasNumber (total f a m)
   sum_number m l = right_number (val h (pos 0) m) (total f a m) (same m l)
@@ -97,3 +93,8 @@ module _ (f h : Tree) (a s : ℤ) (starts : (a -ℤ pos 1) ≤ℤ s) (same : (m 
               (worth-difference (val e (pos 0) (k +ℤ pos 1)) (val e (pos 0) k) ((sum_number (k +ℤ pos 1) (up s k l)).0 +ᵛ neg_value w.0) ((sum_number k (less s k l)).0 +ᵛ neg_value v.0) (proper e (k +ℤ pos 1)) (proper e k)
               (e_worth (k +ℤ pos 1) (up s k l) w.0 w.1) (e_worth k (less s k l) v.0 v.1)))
               v.1
+
+-- with products: the expression is built as the text and the closed form are
+pub closed_with_products : (allowed : Allowed) (f h : Tree) (a s : ℤ) → BuiltOver allowed f → BuiltOver allowed h → (a -ℤ pos 1) ≤ℤ s → ((m : ℤ) → s ≤ℤ m → SameValue (val h (pos 0) m) (total f a m))
+    → (e : Tree) × BuiltOver allowed e × Tele e f
+closed_with_products allowed f h a s o c starts same = (add h (neg f), (c, o), closed_tele f h a s starts same)

@@ -26,7 +26,7 @@ use Rattle.sg_value_theory.proofs.Integral.{Integral}
 use Rattle.sg_value_theory.proofs.Places.{Places}
 use Rattle.sg_value_theory.proofs.First.{NonzeroAt, nonzero_at, zero_only}
 use Rattle.sg_value_theory.proofs.Antidifferences.{formal, value_of}
-use Rattle.sg_value_theory.proofs.NumberParts.{HasNumber, number_unique, both_parts}
+use Rattle.sg_value_theory.proofs.NumberParts.{left_number, HasNumber, number_unique, both_parts}
 use Rattle.sg_value_theory.proofs.Express.{Known, Expressed, express}
 
 -- ---- Numbers
@@ -43,11 +43,6 @@ number_worth None h = absurd h.1
 of_worth : (u : Option Fraction) (v : Value 0) → Worth u v → number u ≡ v
 of_worth (Some x) v h = h
 of_worth None v h = absurd h
-
-pub left_number : (u v : Option Fraction) → SameValue u v → HasNumber u
-left_number (Some x) (Some y) h = (number_of x, refl)
-left_number (Some x) None h = absurd h
-left_number None v h = absurd h
 
 pub worth-difference : (u w : Option Fraction) (v t : Value 0) → IsProper u → IsProper w → Worth u v → Worth w t → Worth (both difference_of u w) (v -ᵛ t)
 worth-difference (Some x) (Some y) v t p q h k = fraction_value-sub x.num y.num x.den y.den p q ∙ ap₂ ◌-ᵛ◌ h k

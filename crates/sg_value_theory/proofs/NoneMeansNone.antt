@@ -1,11 +1,12 @@
 -- None means none: over a tower whose sums are those of a text, what has no formal antidifference has none in values.
 --   Knows               along the points from k0 on the element has the values of the expression
---   none_means_none     no expression over the sums, which may stand in divisors, telescopes the expression from any point on
+--   none_means_none     without products: no expression over the sums, which may stand in divisors, telescopes the expression from any point on
+--   none_with_products  no expression over the products and sums, with divisors that hold no sum, does
 --   fails_formally      where the elements don't telescope, the equation fails beyond every point
 --   telescopes_formally     where they do, it holds from a point on
 --   agrees_formally     expressions that agree from some point on have equal elements; `agree_from` the other way
 --   expressed_formally  an expression over the sums that agrees with one more sum makes what that sum grows by telescope
-use Rattle.std.proofs.Common.{◌≡◌, ℕ, suc, ◌<◌, ◌⊎◌, inl, inr, ℤ, pos, ◌+ℤ◌, ◌-ℤ◌, ◌≤ℤ◌, unsigned_abs, refl, subst, List, [], ◌∷◌, length, Contains, arith}
+use Rattle.std.proofs.Common.{◌≡◌, ℕ, suc, ◌<◌, ◌⊎◌, inl, inr, ℤ, pos, ◌+ℤ◌, ◌-ℤ◌, ◌≤ℤ◌, unsigned_abs, refl, subst, List, [], ◌∷◌, length, Contains, arith, false}
 use Rattle.std.proofs.lemmas.Int.{ints}
 use Rattle.sg_algebra.specs.Ring.{Domain, Hom}
 use Rattle.sg_algebra.specs.Coefficients.{Each}
@@ -13,20 +14,24 @@ use Rattle.sg_algebra.proofs.Place.{Pairwise}
 use Rattle.sg_algebra.proofs.Value.{Value, ◌-ᵛ◌}
 use Rattle.sg_algebra.proofs.ValueField.{ValueR}
 use Rattle.sg_algebra.proofs.Rational.{whole_value, fraction_value-whole}
-use Rattle.sg_spec.specs.Tree.{Tree, here}
-use Rattle.sg_spec.specs.Value.{val, SameValue}
-use Rattle.sg_spec.specs.Generators.{Over}
+use Rattle.sg_spec.specs.Tree.{Tree, here, numeral, param, add, neg, mul, div, power, sum_from, prod_from}
+use Rattle.sg_spec.specs.Value.{val, SameValue, both}
+use Rattle.sg_spec.specs.Generators.{Over, Allowed, BuiltOver as OwnBuilt}
 use Rattle.sg_values.proofs.Worth.{Worth}
-use Rattle.sg_spec.specs.Telescoping.{Tele, Failing, Agree}
+use Rattle.sg_spec.specs.Telescoping.{Tele, Failing, Agree, difference_of}
 use Rattle.sg_tower_theory.proofs.Difference.{delta}
 use Rattle.sg_tower_theory.proofs.Lawful.{Lawful}
 use Rattle.sg_tower_theory.proofs.Formal.{Formal, Element, domain_of, shifted, lifted, IsIndependent, lawful_formal}
 use Rattle.sg_value_theory.proofs.Elements.{Point}
 use Rattle.sg_spec.specs.Worth.{HasWorth}
 use Rattle.sg_value_theory.proofs.TreePoints.{IsPointOf, Agrees}
-use Rattle.sg_value_theory.proofs.TowerOf.{IsTowerOf, IsFormallyNone, at_places}
+use Rattle.sg_value_theory.proofs.TowerOf.{IsTowerOf, IsFormallyNone, at_places, BuiltOver}
 use Rattle.sg_written.proofs.Worths.{worth_number}
 use Rattle.sg_written.proofs.Closes.{no_letter}
+use Rattle.sg_value_theory.proofs.NumberParts.{left_number, right_number, both_parts}
+use Rattle.sg_value_theory.proofs.NumberWorths.{number_has}
+use Rattle.sg_value_theory.proofs.Divisors.{listed_divisor}
+use Rattle.sg_value_theory.proofs.OverProducts.{AgreesFrom, element_over}
 use Rattle.sg_value_theory.proofs.Places.{Places}
 use Rattle.sg_value_theory.proofs.Evaluations.{lifted-has}
 use Rattle.sg_value_theory.proofs.RationalPlaces.{variable, variable_at}
@@ -47,7 +52,7 @@ pairwise_contains {Y} P (x ∷ xs) (y ∷ ys) p t c = go (contains_cons x t xs c
     go (inl e) again = (y, subst (λ (z : Tree). P z y) e p.0)
     go (inr k) again = again k
 
-module _ (s : ℤ) (ps ss : List Tree) (F : Formal 0) (places : List ℕ) (known : List (Element F)) (is : IsTowerOf no_letter s ps ss F places known) (units : Each (HasUnits no_letter) ps) (all : Each (HasValues no_letter) ss)
+module _ (s : ℤ) (ps ss : List Tree) (F : Formal 0) (places : List ℕ) (known : List (Element F)) (is : IsTowerOf no_letter s ps ss F places known) (units : Each (HasUnits no_letter) ps)
     (frees : Each (HasValues no_letter) (at_places ss places)) (k0 : ℤ) (late : s ≤ℤ k0) where
   abbrev D : Domain
   D = domain_of F
@@ -68,8 +73,8 @@ module _ (s : ℤ) (ps ss : List Tree) (F : Formal 0) (places : List ℕ) (known
   pub knows : (t : Tree) (x : Element F) → ((k : ℤ) → k0 ≤ℤ k → (v : Value 0) × HasWorth no_letter t k v) → ((p : Point 0) → s ≤ℤ p.variable → IsPointOf no_letter ps (at_places ss places) p → Agrees no_letter F p x t) → Knows t x
   knows t x has agrees = to_known t x (known-along no_letter s ps ss F places known is units frees k0 late t x has agrees)
 
-  pub sums_known : (t : Tree) → Contains ss t → (h : Element F) × Knows t h
-  sums_known t c =
+  pub sums_known : Each (HasValues no_letter) ss → (t : Tree) → Contains ss t → (h : Element F) × Knows t h
+  sums_known all t c =
       let r = pairwise_contains (KnownAlong no_letter s ps ss F places known is units frees k0 late) ss known (knowns no_letter s ps ss F places known is units frees k0 late all) t c in
       (r.0, to_known t r.0 r.1)
 
@@ -80,13 +85,13 @@ module _ (s : ℤ) (ps ss : List Tree) (F : Formal 0) (places : List ℕ) (known
     lawful : Lawful D σ
     lawful = lawful_formal F independent
 
-    pub known_none : F.products ≡ [] → (f : Tree) (x : Element F) → Knows f x → ((g : Element F) → ¬ (D.R.◌≈◌ (delta (shifted F) g) x)) → (e : Tree) → Over ss e → ¬ Tele e f
-    known_none n = none_in_values D σ P lawful k0 (integral_formal F n independent) ss sums_known (lifted F (variable 0)) variable_known
+    pub known_none : F.products ≡ [] → Each (HasValues no_letter) ss → (f : Tree) (x : Element F) → Knows f x → ((g : Element F) → ¬ (D.R.◌≈◌ (delta (shifted F) g) x)) → (e : Tree) → Over ss e → ¬ Tele e f
+    known_none n all = none_in_values D σ P lawful k0 (integral_formal F n independent) ss (sums_known all) (lifted F (variable 0)) variable_known
 
-    pub known_expressed : F.products ≡ [] → (e t : Tree) (x : Element F) → Over ss e
+    pub known_expressed : F.products ≡ [] → Each (HasValues no_letter) ss → (e t : Tree) (x : Element F) → Over ss e
         → ((k : ℕ) → (u u' v : Value 0) × Worth (val t (pos 0) (k0 +ℤ pos k)) u × Worth (val t (pos 0) (k0 +ℤ pos (suc k))) u' × P.Has x k v × (u' -ᵛ u ≡ v))
         → Agree e t → (g : Element F) × D.R.◌≈◌ (delta (shifted F) g) x
-    known_expressed n = agree_formal D σ P lawful k0 (integral_formal F n independent) ss sums_known (lifted F (variable 0)) variable_known
+    known_expressed n all = agree_formal D σ P lawful k0 (integral_formal F n independent) ss (sums_known all) (lifted F (variable 0)) variable_known
 
     pub fails_formally : (e f : Tree) (x y : Element F) → Knows e x → Knows f y → ¬ (D.R.◌≈◌ (delta (shifted F) x) y) → (K : ℤ) → Failing e f K
     fails_formally = failing D σ P lawful k0
@@ -120,14 +125,64 @@ at_each : (ss : List Tree) (places : List ℕ) → Each (HasValues no_letter) ss
 at_each ss [] h i = tt
 at_each ss (n ∷ ns) h i = (each-at (HasValues no_letter) ss n here i.0 h, at_each ss ns h i.1)
 
-pub none_means_none : (s : ℤ) (ss : List Tree) (f : Tree) (K : ℤ) → Each (HasValues no_letter) ss → ((k : ℤ) → K ≤ℤ k → (v : Value 0) × HasWorth no_letter f k v) → IsFormallyNone no_letter s [] ss f → (e : Tree) → Over ss e → ¬ Tele e f
-none_means_none s ss f K all has n e over tele = go (later s K)
+-- where an equation holds, both sides have values
+tele_left : (e f : Tree) (t : Tele e f) (k : ℤ) → t.from ≤ℤ k → (v : Value 0) × HasWorth no_letter e k v
+tele_left e f t k l =
+    let n = left_number (both difference_of (val e (pos 0) (k +ℤ pos 1)) (val e (pos 0) k)) (val f (pos 0) k) (t.steps k l) in
+    let m = (both_parts difference_of (val e (pos 0) (k +ℤ pos 1)) (val e (pos 0) k) n.0 n.1).1 in
+    (m.0, number_has (pos 0) e k m.0 m.1)
+
+tele_right : (e f : Tree) (t : Tele e f) (k : ℤ) → t.from ≤ℤ k → (v : Value 0) × HasWorth no_letter f k v
+tele_right e f t k l =
+    let m = right_number (both difference_of (val e (pos 0) (k +ℤ pos 1)) (val e (pos 0) k)) (val f (pos 0) k) (t.steps k l) in
+    (m.0, number_has (pos 0) f k m.0 m.1)
+
+up_to_place : (K z k : ℤ) → K ≤ℤ z → z ≤ℤ k → K ≤ℤ k
+up_to_place K z k l m = omega (arith, ints, l, m)
+
+pub none_means_none : (s : ℤ) (ss : List Tree) (f : Tree) → Each (HasValues no_letter) ss → IsFormallyNone no_letter s [] ss f → (e : Tree) → Over ss e → ¬ Tele e f
+none_means_none s ss f all n e over tele = go (later s tele.from)
   where
-    go : (z : ℤ) × (s ≤ℤ z) × (K ≤ℤ z) → ⊥
+    go : (z : ℤ) × (s ≤ℤ z) × (tele.from ≤ℤ z) → ⊥
     go z =
         let frees = at_each ss n.places all n.is.inside in
-        known_none s [] ss n.tower n.places n.known n.is tt all frees z.0 z.1 n.independent (no_factors 0 n.tower.products n.is.adjoined) f n.element
-        (knows s [] ss n.tower n.places n.known n.is tt all frees z.0 z.1 f n.element (λ k l. has k (reach z.0 k l z.2)) n.stands) n.none e over tele
+        known_none s [] ss n.tower n.places n.known n.is tt frees z.0 z.1 n.independent (no_factors 0 n.tower.products n.is.adjoined) all f n.element
+        (knows s [] ss n.tower n.places n.known n.is tt frees z.0 z.1 f n.element (λ k l. tele_right e f tele k (up_to_place tele.from z.0 k z.2 l)) n.stands) n.none e over tele
+
+-- ---- Texts with products
+
+abbrev pub own : List Tree → List Tree → Allowed
+own ps ss = record { parameter = false; products = ps; sums = ss }
+
+over_built : (ps ss : List Tree) (e : Tree) → OwnBuilt (own ps ss) e → BuiltOver ps ss e
+over_built ps ss (numeral c) o = tt
+over_built ps ss here o = tt
+over_built ps ss param o = tt
+over_built ps ss (add x y) o = (over_built ps ss x o.0, over_built ps ss y o.1)
+over_built ps ss (neg x) o = over_built ps ss x o
+over_built ps ss (mul x y) o = (over_built ps ss x o.0, over_built ps ss y o.1)
+over_built ps ss (div x y) o = (over_built ps ss x o.0, over_built ps ss y o.1, listed_divisor ps ss y o.1 o.2)
+over_built ps ss (power x e) o = over_built ps ss x o
+over_built ps ss (sum_from a b) o = o
+over_built ps ss (prod_from a b) o = o
+
+pub none_with_products : (s : ℤ) (ps ss : List Tree) (f : Tree) → Each (HasUnits no_letter) ps → Each (HasValues no_letter) ss → IsFormallyNone no_letter s ps ss f → (e : Tree) → OwnBuilt (own ps ss) e → ¬ Tele e f
+none_with_products s ps ss f units all n e over tele = go (later s tele.from)
+  where
+    go : (z : ℤ) × (s ≤ℤ z) × (tele.from ≤ℤ z) → ⊥
+    go z = clash (element_over no_letter s ps ss n.tower n.places n.known n.is sums e (over_built ps ss e over))
       where
-        reach : (z k : ℤ) → z ≤ℤ k → K ≤ℤ z → K ≤ℤ k
-        reach z k l m = omega (arith, ints, l, m)
+        frees : Each (HasValues no_letter) (at_places ss n.places)
+        frees = at_each ss n.places all n.is.inside
+
+        sums : (t : Tree) → Contains ss t → (x : Element n.tower) × AgreesFrom no_letter s ps ss n.tower n.places n.known n.is x t
+        sums t c = pairwise_contains (λ g x. AgreesFrom no_letter s ps ss n.tower n.places n.known n.is x g) ss n.known n.is.known_agree t c
+
+        clash : (x : Element n.tower) × AgreesFrom no_letter s ps ss n.tower n.places n.known n.is x e → ⊥
+        clash x = fails (fails_formally s ps ss n.tower n.places n.known n.is units frees z.0 z.1 n.independent e f x.0 n.element
+            (knows s ps ss n.tower n.places n.known n.is units frees z.0 z.1 e x.0 (λ k l. tele_left e f tele k (up_to_place tele.from z.0 k z.2 l)) x.1)
+            (knows s ps ss n.tower n.places n.known n.is units frees z.0 z.1 f n.element (λ k l. tele_right e f tele k (up_to_place tele.from z.0 k z.2 l)) n.stands)
+            (n.none x.0) tele.from)
+          where
+            fails : Failing e f tele.from → ⊥
+            fails h = h.fails (tele.steps h.k h.past)

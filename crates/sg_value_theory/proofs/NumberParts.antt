@@ -3,6 +3,7 @@
 --   number_unique        it is one number
 --   both_parts, opposite_part, power_part    what has a value has parts that have one
 --   quotient_worth       a quotient has a value only where the divisor's isn't 0, and is that of the values
+--   left_number, right_number    equal values exist
 --   pow-mul              a power of a product
 use Rattle.std.proofs.Common.{◌≡◌, ℕ, zero, suc, refl, sym, ◌∙◌, ap, ap₂, [], ◌∷◌, ℤ, pos, negsuc, Option, Some, None}
 use Rattle.sg_algebra.proofs.Ring.{pow}
@@ -11,7 +12,7 @@ use Rattle.sg_algebra.proofs.Value.{Value, ◌*ᵛ◌, ◌/ᵛ◌, zero_value}
 use Rattle.sg_algebra.proofs.ValueField.{ValueR, value_product}
 use Rattle.sg_algebra.proofs.Rational.{fraction_value-over, zero_fraction_value}
 use Rattle.sg_spec.specs.Fraction.{Fraction, over}
-use Rattle.sg_spec.specs.Value.{both, quotient_of, unless_zero, opposite_of, power_of}
+use Rattle.sg_spec.specs.Value.{both, quotient_of, unless_zero, opposite_of, power_of, SameValue}
 use Rattle.sg_values.proofs.Values.{IsProper}
 use Rattle.sg_values.proofs.Worth.{number_of, Worth}
 
@@ -61,3 +62,14 @@ quotient_worth None v x a b p q h i j = absurd h
 pub pow-mul : (x y : Value 0) (e : ℕ) → pow (ValueR 0) x e *ᵛ pow (ValueR 0) y e ≡ pow (ValueR 0) (x *ᵛ y) e
 pow-mul x y zero = ring (ValueR 0) [] (search reads depth 12) refl
 pow-mul x y (suc e) = by (ValueR 0) (x ∷ y ∷ pow (ValueR 0) x e ∷ pow (ValueR 0) y e ∷ pow (ValueR 0) (x *ᵛ y) e ∷ []) (scale (ValueR 0) (x *ᵛ y) (pow-mul x y e)) (search reads depth 16) refl
+
+-- equal values exist
+pub left_number : (u v : Option Fraction) → SameValue u v → HasNumber u
+left_number (Some x) (Some y) h = (number_of x, refl)
+left_number (Some x) None h = absurd h
+left_number None v h = absurd h
+
+pub right_number : (u v : Option Fraction) → SameValue u v → HasNumber v
+right_number (Some x) (Some y) h = (number_of y, refl)
+right_number (Some x) None h = absurd h
+right_number None v h = absurd h

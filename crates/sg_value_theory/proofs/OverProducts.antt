@@ -3,26 +3,20 @@
 --   function_of y         the rational function of a polynomial; `function-has`
 --   inverse_of y          the element of 1/y for a divisor y; `inverse-agrees`
 --   element_over e        the element of an expression; it agrees with it at every point: `element-agrees`
-use Rattle.std.proofs.Common.{◌≡◌, ◌≢◌, ℕ, zero, suc, ◌<◌, ◌⊎◌, inl, inr, ℤ, pos, negsuc, neg_ℤ, ◌≤ℤ◌, refl, sym, ap, ap₂, ◌∙◌, subst, List, [], ◌∷◌, length, map, Contains, arith}
-use Rattle.std.proofs.lemmas.Int.{ints}
+use Rattle.std.proofs.Common.{◌≡◌, ℕ, zero, suc, ◌<◌, ◌⊎◌, inl, inr, ℤ, pos, neg_ℤ, ◌≤ℤ◌, refl, sym, ap, ◌∙◌, subst, List, [], ◌∷◌, length, map, Contains, arith}
 use Rattle.std.proofs.lemmas.List.{length-map}
-use Rattle.sg_algebra.specs.Ring.{Ring, Hom}
-use Rattle.sg_algebra.specs.Coefficients.{Each}
-use Rattle.sg_algebra.proofs.Ring.{nat, pow}
-use Rattle.sg_algebra.proofs.Solver.{ring, by, scale, reads}
-use Rattle.sg_algebra.proofs.Field.{product_ne}
-use Rattle.sg_algebra.proofs.Place.{Pairwise}
-use Rattle.sg_algebra.proofs.Value.{Value, ◌+ᵛ◌, ◌*ᵛ◌, ◌/ᵛ◌, neg_value, inv_value, zero_value, one_value}
-use Rattle.sg_algebra.proofs.ValueField.{ValueR, ValueF, ValueD, value_mul-inv, value_quotient}
+use Rattle.sg_algebra.specs.Ring.{Ring}
+use Rattle.sg_algebra.proofs.Ring.{pow}
+use Rattle.sg_algebra.proofs.Solver.{ring, by, reads}
+use Rattle.sg_algebra.proofs.Value.{Value, ◌+ᵛ◌, ◌*ᵛ◌, neg_value, inv_value, zero_value, one_value}
+use Rattle.sg_algebra.proofs.ValueField.{ValueR, ValueF, value_mul-inv, value_quotient}
 use Rattle.sg_algebra.proofs.Embedding.{constant_value}
 use Rattle.sg_algebra.proofs.Rational.{whole_value}
 use Rattle.sg_spec.specs.Tree.{Tree, numeral, here, param, add, neg, mul, div, power, sum_from, prod_from}
 use Rattle.sg_value_theory.proofs.Divisors.{IsPolynomial, IsDivisor}
-use Rattle.sg_tower_theory.specs.Powers.{power as power_of}
-use Rattle.sg_tower_theory.proofs.Difference.{Difference}
-use Rattle.sg_tower_theory.proofs.Formal.{Formal, Element, elements, shifted, factors, lifted, repaired}
+use Rattle.sg_tower_theory.proofs.Formal.{Formal, Element, elements, factors, lifted, repaired}
 use Rattle.sg_tower_theory.proofs.Flat.{unit_in}
-use Rattle.sg_value_theory.proofs.Evaluation.{Evaluation, pow_has}
+use Rattle.sg_value_theory.proofs.Evaluation.{pow_has}
 use Rattle.sg_value_theory.proofs.Elements.{Point, IsQuotientAt, HasElement}
 use Rattle.sg_value_theory.proofs.Quotients.{quotients, quotient-constant}
 use Rattle.sg_spec.specs.Worth.{HasWorth}

@@ -3,7 +3,8 @@
 --   worth_has           where the text has a value, the function has that value
 --   rational_known      so the text is known from each place on from which it has values
 --   rational_none       no rational antidifference of the element of f: no expression without sums telescopes f in values
---   text_none           the same of the rational function of the text
+--   text_none           the same of the rational function of a text that has values from some place on
+--   none_of_text        and of any text
 use Rattle.std.proofs.Common.{◌≡◌, ℕ, zero, suc, sym, ◌∙◌, subst, [], ℤ, pos, ◌+ℤ◌, ◌≤ℤ◌, Contains, arith}
 use Rattle.std.proofs.lemmas.Int.{ints}
 use Rattle.sg_algebra.proofs.Ring.{pow}
@@ -11,17 +12,17 @@ use Rattle.sg_algebra.proofs.Value.{Value, ◌+ᵛ◌, ◌*ᵛ◌, ◌/ᵛ◌, n
 use Rattle.sg_algebra.proofs.ValueField.{ValueR, ValueF, ValueD, value_quotient}
 use Rattle.sg_algebra.proofs.Rational.{whole_value, fraction_value-whole}
 use Rattle.sg_spec.specs.Tree.{Tree, numeral, here, param, add, neg, mul, div, power, sum_from, prod_from}
-use Rattle.sg_spec.specs.Value.{val, sum_of, product_of, quotient_of}
+use Rattle.sg_spec.specs.Value.{val, both, sum_of, product_of, quotient_of}
 use Rattle.sg_spec.specs.Generators.{Over}
 use Rattle.sg_values.proofs.Values.{val-proper}
 use Rattle.sg_values.proofs.Worth.{Worth, worth-sum, worth-product, worth-opposite, worth-power}
-use Rattle.sg_spec.specs.Telescoping.{Tele}
+use Rattle.sg_spec.specs.Telescoping.{difference_of, Tele}
 use Rattle.sg_tower_theory.proofs.Nested.{Telescopes}
 use Rattle.sg_tower_theory.proofs.ShiftValue.{shift_valueH}
 use Rattle.sg_value_theory.proofs.Elements.{IsQuotientAt}
 use Rattle.sg_value_theory.proofs.Quotients.{quotients, quotient-over}
 use Rattle.sg_value_theory.proofs.Integral.{integral_field}
-use Rattle.sg_value_theory.proofs.NumberParts.{HasNumber, number_unique, both_parts, opposite_part, power_part, quotient_worth}
+use Rattle.sg_value_theory.proofs.NumberParts.{HasNumber, number_unique, both_parts, opposite_part, power_part, quotient_worth, right_number}
 use Rattle.sg_value_theory.proofs.Express.{Known}
 use Rattle.sg_value_theory.proofs.Joined.{none_in_values, tele_formal}
 use Rattle.sg_value_theory.proofs.RationalPlaces.{point, whole_at, lawful_rational, variable, variable_at, rational_places}
@@ -104,3 +105,8 @@ module _ (f : Tree) (o : Over [] f) (K : ℤ) (defined : (k : ℤ) → K ≤ℤ 
   -- none means none, for texts without sums
   pub text_none : ((g : Value 1) → ¬ Telescopes (ValueR 1) (shift_valueH 0) g (element_of f)) → (e : Tree) → Over [] e → ¬ Tele e f
   text_none none e q t = rational_none K f (element_of f) rational_known none e q t
+
+-- where an expression telescopes the text, the text has values from some place on
+pub none_of_text : (f : Tree) → Over [] f → ((g : Value 1) → ¬ Telescopes (ValueR 1) (shift_valueH 0) g (element_of f)) → (e : Tree) → Over [] e → ¬ Tele e f
+none_of_text f o none e q t =
+    text_none f o t.from (λ k l. right_number (both difference_of (val e (pos 0) (k +ℤ pos 1)) (val e (pos 0) k)) (val f (pos 0) k) (t.steps k l)) none e q t

@@ -1,6 +1,6 @@
 ghost use Rattle.std.specs.Prelude.{◌≡◌, ◌≢◌, ◌+◌, ◌++◌, ◌∷◌, [], length, IfOk, IfErr, pos, ◌-ℤ◌, ℕ};
 ghost use Rattle.sg_algebra.proofs.Ring.{nat};
-ghost use Rattle.sg_algebra.proofs.Value.{Value, ◌+ᵛ◌, ◌-ᵛ◌, ◌*ᵛ◌, neg_value, zero_value, one_value};
+ghost use Rattle.sg_algebra.proofs.Value.{Value, ◌+ᵛ◌, ◌-ᵛ◌, ◌*ᵛ◌, ◌/ᵛ◌, neg_value, zero_value, one_value};
 ghost use Rattle.sg_algebra.proofs.ValueField.{ValueR};
 ghost use Rattle.sg_algebra.proofs.Rational.{whole_value};
 ghost use Rattle.sg_num.specs.Value.{fraction, number};
@@ -105,8 +105,8 @@ impl Differences {
             Some((c, rest)) => match self {
                 Differences::End => Ok(Row::new(alloc)),
                 Differences::Next { lower, below } => {
-                    let t = c.over(one_more(rest.len()))?;
-                    let minus_t = c.over(minus_one_more(rest.len()))?;
+                    let t = quotient(*c, one_more(rest.len()))?;
+                    let minus_t = quotient(*c, minus_one_more(rest.len()))?;
                     let left = with_multiple(alloc, rest, minus_t, lower.as_slice())?;
                     let q = below.telescoped(alloc, left.as_slice())?;
                     let all = with_top(alloc, q.as_slice(), t)?;
@@ -115,6 +115,16 @@ impl Differences {
             },
         }
     }
+}
+
+// The quotient, with the error of computing calls.
+fn quotient(a: Rat, b: Rat) -> Result<Rat, Stop>
+    requires { (fraction b).num ≢ pos 0 }
+    ensures value { IfOk result (λ r. number r ≡ number a /ᵛ number b) }
+    ensures wide { IfErr result KeepsWideStep }
+{
+    let r = a.over(b)?;
+    Ok(r)
 }
 
 // n + 1.

@@ -30,5 +30,5 @@ returns-in_ok-all-in-Next-clause-value t c =
     let low = rw c.in-Next.is at (rows-one c) in
     telescopes-more (length c.in-Some.rest.now) c.args.p.now c.in-Some.rest.now c.in-Next.lower c.as_slice.result.now c.in_ok-left-in-Next.left c.as_slice-in-Next.result.now c.in_ok-q-in-Next.q c.as_slice-in-Next-2.result.now c.in_ok-all-in-Next.all
     c.in-Some.c.now c.in_ok-t-in-Next.t c.in_ok-minus_t-in-Next.minus_t c.one_more.result c.minus_one_more.result c.in-Some.ensures.cases.0 refl low.0
-    c.one_more.ensures.value c.minus_one_more.ensures.value c.in_ok-t-in-Next.ensures.as_number c.in_ok-minus_t-in-Next.ensures.as_number
+    c.one_more.ensures.value c.minus_one_more.ensures.value c.in_ok-t-in-Next.ensures.value c.in_ok-minus_t-in-Next.ensures.value
     c.as_slice.ensures c.in_ok-left-in-Next.ensures.value c.as_slice-in-Next.ensures c.in_ok-q-in-Next.ensures.value (size-q c) c.as_slice-in-Next-2.ensures c.in_ok-all-in-Next.ensures

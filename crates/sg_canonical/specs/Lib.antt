@@ -1,4 +1,0 @@
-pub mod Whole
-pub mod Signs
-pub mod Parts
-pub mod Rational

@@ -1,0 +1,8 @@
+use Rattle.std.proofs.Common.{◌+◌}
+use Rattle.sg_tower_theory.proofs.Formal.{elements}
+use Rattle.sg_sums.proofs.Building.{Builds}
+use Rattle.sg_sums.proofs.Shifting.{behind_target}
+use Rattle.sg_sums.proofs.polys.behind.Given as goal
+
+abbrev pub invariant-loop-i : goal.invariant-loop-i
+invariant-loop-i g l = Builds (elements (g.T.Tower.formal g.T.K.Field.vars g.T.K.Field.val l.below)) (g.T.Tower.meaning g.T.K.Field.vars g.T.K.Field.val l.below) (behind_target (g.T.Tower.formal g.T.K.Field.vars g.T.K.Field.val l.below) (g.T.Tower.meaning g.T.K.Field.vars g.T.K.Field.val l.below) l.fn.a l.x) (l.i + 1) l.r

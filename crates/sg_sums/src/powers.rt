@@ -1,0 +1,271 @@
+ghost use Rattle.std.specs.Prelude.{◌≡◌, ℕ, ◌<◌, ◌≤◌, ◌+◌, IfOk, IfErr, length, map};
+ghost use Rattle.sg_algebra.specs.Coefficients.{Each};
+ghost use Rattle.sg_algebra.proofs.Value.{Value, ◌+ᵛ◌, ◌*ᵛ◌, zero_value, one_value};
+ghost use Rattle.sg_algebra.proofs.Polynomial.{coefficient as coefficient_at};
+ghost use Rattle.sg_algebra.proofs.Linear.{unit};
+ghost use Rattle.sg_algebra.proofs.Place.{Pairwise};
+ghost use Rattle.sg_num.specs.Stopped.{KeepsWideStep};
+ghost use Rattle.sg_tower_theory.proofs.Formal.{shifted, elements, one_more};
+ghost use Rattle.sg_tower_theory.proofs.Difference.{Solves, Spanned};
+ghost use Rattle.sg_tower.specs.Elements.{Same, AllSolve, IsComplete, IsShifted};
+ghost use Rattle.sg_sums.specs.Polynomials.{at_place, IsExtended, IsCombined, State, Sides, Next, StartRows, IsFinished};
+
+use crate::partial::Partial;
+use crate::poly1::Poly1;
+use crate::polys::{added, behind, coefficient, monomial, scaled, subtracted, times};
+use sg_matrix::Solution;
+use sg_num::{Field, Row, Stop};
+use sg_tower::Tower;
+use std::alloc::Global;
+
+// The polynomial at t + β with k + 1 for k, by Horner's rule.
+pub(crate) fn shifted_poly<T: Tower>(
+    alloc: Global,
+    below: &T,
+    beta: &T::Elem,
+    x: &Row<T::Elem>,
+) -> Result<Row<T::Elem>, Stop>
+    ensures value { IfOk result (IsShifted (one_more (T.formal T.K.vars T.K.val below.now) (T.meaning T.K.vars T.K.val below.now beta.now)) (map (T.meaning T.K.vars T.K.val below.now)) x.now) }
+    ensures wide { IfErr result KeepsWideStep }
+{
+    let mut r = Row::new(alloc);
+    for i in 0..x.len() {
+        let a = below.shift(alloc, x.get(x.len() - 1 - i))?;
+        let moved = behind(alloc, below, a, &r)?;
+        let product = times(alloc, below, beta, &r)?;
+        r = added(alloc, below, &moved, &product)?;
+    }
+    Ok(r)
+}
+
+// The constant at `i`: 0 past the end.
+fn constant<F: Field>(alloc: Global, cs: &Row<F>, i: usize) -> Result<F, Stop>
+    ensures value { IfOk result (λ r. F.val r ≡ coefficient_at (map F.val cs.now) i) }
+    ensures wide { IfErr result KeepsWideStep }
+{
+    if i < cs.len() {
+        let c = cs.get(i).copy(alloc)?;
+        Ok(c)
+    } else {
+        let c = F::zero(alloc)?;
+        Ok(c)
+    }
+}
+
+// x + c y.
+fn plus_constants<F: Field>(alloc: Global, x: &Row<F>, c: &F, y: &Row<F>) -> Result<Row<F>, Stop>
+    ensures value { IfOk result (λ r. (i : ℕ) → coefficient_at (map F.val r) i ≡ coefficient_at (map F.val x.now) i +ᵛ F.val c.now *ᵛ coefficient_at (map F.val y.now) i) }
+    ensures wide { IfErr result KeepsWideStep }
+{
+    let mut r = Row::new(alloc);
+    for i in 0..x.len().max(y.len()) {
+        let a = constant(alloc, x, i)?;
+        let b = constant(alloc, y, i)?.mul(alloc, c)?;
+        r.push(a.add(alloc, &b)?)?;
+    }
+    Ok(r)
+}
+
+// The entry at `j`: 1 where it is `i`, else 0.
+fn unit_entry<F: Field>(alloc: Global, i: usize, j: usize) -> Result<F, Stop>
+    ensures value { IfOk result (λ r. F.val r ≡ unit i j) }
+    ensures wide { IfErr result KeepsWideStep }
+{
+    if i == j {
+        let one = F::one(alloc)?;
+        Ok(one)
+    } else {
+        let zero = F::zero(alloc)?;
+        Ok(zero)
+    }
+}
+
+// 1 at `i`, 0 at the other places below `n`.
+fn unit_row<F: Field>(alloc: Global, n: usize, i: usize) -> Result<Row<F>, Stop>
+    requires { i < n }
+    ensures value { IfOk result (λ r. (j : ℕ) → coefficient_at (map F.val r) j ≡ unit i j) }
+    ensures wide { IfErr result KeepsWideStep }
+{
+    let mut r = Row::new(alloc);
+    for j in 0..n {
+        r.push(unit_entry(alloc, i, j)?)?;
+    }
+    Ok(r)
+}
+
+// acc + c row.
+fn extended<T: Tower>(
+    alloc: Global,
+    below: &T,
+    acc: &Partial<T::K, T::Elem>,
+    c: &T::K,
+    row: &Partial<T::K, T::Elem>,
+) -> Result<Partial<T::K, T::Elem>, Stop>
+    ensures value { IfOk result (IsExtended (T.formal T.K.vars T.K.val below.now) (T.meaning T.K.vars T.K.val below.now) T.K.val (elements (T.formal T.K.vars T.K.val below.now)).O acc.now (T.K.val c.now) row.now) }
+    ensures wide { IfErr result KeepsWideStep }
+{
+    let coeffs = plus_constants(alloc, &acc.coeffs, c, &row.coeffs)?;
+    let more = scaled(alloc, below, c, &row.value)?;
+    let value = added(alloc, below, &acc.value, &more)?;
+    let rest = scaled(alloc, below, c, &row.left)?;
+    let left = added(alloc, below, &acc.left, &rest)?;
+    Ok(Partial {
+        coeffs,
+        value,
+        left,
+    })
+}
+
+// The sum of the rows with constants as factors.
+fn combined<T: Tower>(
+    alloc: Global,
+    below: &T,
+    beta: &T::Elem,
+    cs: &Row<T::K>,
+    rows: &Row<Partial<T::K, T::Elem>>,
+) -> Result<Partial<T::K, T::Elem>, Stop>
+    ensures value { IfOk result (IsCombined (T.formal T.K.vars T.K.val below.now) (T.meaning T.K.vars T.K.val below.now) T.K.val (T.meaning T.K.vars T.K.val below.now beta.now) (coefficient_at (map T.K.val cs.now)) rows.now) }
+    ensures wide { IfErr result KeepsWideStep }
+{
+    let mut sum = Partial {
+        coeffs: Row::new(alloc),
+        value: Row::new(alloc),
+        left: Row::new(alloc),
+    };
+    for i in 0..rows.len() {
+        let c = constant(alloc, cs, i)?;
+        sum = extended(alloc, below, &sum, &c, rows.get(i))?;
+    }
+    Ok(sum)
+}
+
+// The unit rows: no value yet, and all is left.
+pub(crate) fn start<T: Tower>(
+    alloc: Global,
+    below: &T,
+    beta: &T::Elem,
+    fs: &Row<Poly1<T::Elem>>,
+) -> Result<Row<Partial<T::K, T::Elem>>, Stop>
+    ensures value { IfOk result (StartRows (T.formal T.K.vars T.K.val below.now) (T.meaning T.K.vars T.K.val below.now) T.K.val (T.meaning T.K.vars T.K.val below.now beta.now) fs.now) }
+    ensures wide { IfErr result KeepsWideStep }
+{
+    let mut rows = Row::new(alloc);
+    for i in 0..fs.len() {
+        let coeffs = unit_row(alloc, fs.len(), i)?;
+        let none = Row::new(alloc);
+        let left = added(alloc, below, &none, fs.get(i).row())?;
+        rows.push(Partial {
+            coeffs,
+            value: none,
+            left,
+        })?;
+    }
+    Ok(rows)
+}
+
+// The coefficients at `n` of what is left.
+fn sides<T: Tower>(
+    alloc: Global,
+    below: &T,
+    beta: &T::Elem,
+    fs: &Row<Poly1<T::Elem>>,
+    n: usize,
+    rows: &Row<Partial<T::K, T::Elem>>,
+) -> Result<Row<T::Elem>, Stop>
+    ensures value { IfOk result (Sides (T.formal T.K.vars T.K.val below.now) (T.meaning T.K.vars T.K.val below.now) T.K.val (T.meaning T.K.vars T.K.val below.now beta.now) fs.now n rows.now) }
+    ensures wide { IfErr result KeepsWideStep }
+{
+    let mut ls = Row::new(alloc);
+    for i in 0..rows.len() {
+        let row = rows.get(i);
+        ls.push(coefficient(alloc, below, &row.left, n)?)?;
+    }
+    Ok(ls)
+}
+
+// The row that goes on by v t^n.
+fn next<T: Tower>(
+    alloc: Global,
+    below: &T,
+    beta: &T::Elem,
+    fs: &Row<Poly1<T::Elem>>,
+    n: usize,
+    rows: &Row<Partial<T::K, T::Elem>>,
+    ls: &Row<T::Elem>,
+    v: &Solution<T::K, T::Elem>,
+) -> Result<Partial<T::K, T::Elem>, Stop>
+    ensures value { IfOk result (Next (T.formal T.K.vars T.K.val below.now) (T.meaning T.K.vars T.K.val below.now) T.K.val (T.meaning T.K.vars T.K.val below.now beta.now) fs.now n rows.now ls.now v.now) }
+    ensures wide { IfErr result KeepsWideStep }
+{
+    let sum = combined(alloc, below, beta, &v.coeffs, rows)?;
+    let power = monomial(alloc, below, n, &v.value)?;
+    let moved = shifted_poly(alloc, below, beta, &power)?;
+    let difference = subtracted(alloc, below, &moved, &power)?;
+    let value = added(alloc, below, &sum.value, &power)?;
+    let left = subtracted(alloc, below, &sum.left, &difference)?;
+    Ok(Partial {
+        coeffs: sum.coeffs,
+        value,
+        left,
+    })
+}
+
+// One power of t: the rows that go on by the solutions below.
+fn all_next<T: Tower>(
+    alloc: Global,
+    below: &T,
+    beta: &T::Elem,
+    fs: &Row<Poly1<T::Elem>>,
+    n: usize,
+    rows: &Row<Partial<T::K, T::Elem>>,
+    ls: &Row<T::Elem>,
+    inner: &Row<Solution<T::K, T::Elem>>,
+) -> Result<Row<Partial<T::K, T::Elem>>, Stop>
+    ensures value { IfOk result (λ new. Pairwise (Next (T.formal T.K.vars T.K.val below.now) (T.meaning T.K.vars T.K.val below.now) T.K.val (T.meaning T.K.vars T.K.val below.now beta.now) fs.now n rows.now ls.now) inner.now new) }
+    ensures wide { IfErr result KeepsWideStep }
+{
+    let mut new = Row::new(alloc);
+    for i in 0..inner.len() {
+        new.push(next(alloc, below, beta, fs, n, rows, ls, inner.get(i))?)?;
+    }
+    Ok(new)
+}
+
+// The rows without the power t^n, from those without the powers above it.
+pub(crate) fn lowered<T: Tower>(
+    alloc: Global,
+    below: &T,
+    beta: &T::Elem,
+    fs: &Row<Poly1<T::Elem>>,
+    n: usize,
+    rows: &Row<Partial<T::K, T::Elem>>,
+) -> Result<Row<Partial<T::K, T::Elem>>, Stop>
+    requires { State (T.formal T.K.vars T.K.val below.now) (T.meaning T.K.vars T.K.val below.now) T.K.val (T.meaning T.K.vars T.K.val below.now beta.now) fs.now (n + 1) rows.now }
+    ensures value { IfOk result (State (T.formal T.K.vars T.K.val below.now) (T.meaning T.K.vars T.K.val below.now) T.K.val (T.meaning T.K.vars T.K.val below.now beta.now) fs.now n) }
+    ensures wide { IfErr result KeepsWideStep }
+{
+    let ls = sides(alloc, below, beta, fs, n, rows)?;
+    let inner = below.solve(alloc, &ls)?;
+    let new = all_next(alloc, below, beta, fs, n, rows, &ls, &inner)?;
+    Ok(new)
+}
+
+// The rows without what is left.
+pub(crate) fn finished<K: Drop, E: Drop>(
+    alloc: Global,
+    rows: Row<Partial<K, E>>,
+) -> Result<Row<Solution<K, Poly1<E>>>, Stop>
+    ensures value { IfOk result (Pairwise IsFinished rows) }
+    ensures wide { IfErr result KeepsWideStep }
+{
+    let mut rest = rows;
+    let mut answer = Row::new(alloc);
+    for _ in 0..rest.len() {
+        let row = rest.remove(0);
+        answer.push(Solution {
+            coeffs: row.coeffs,
+            value: Poly1::of(row.value),
+        })?;
+    }
+    Ok(answer)
+}

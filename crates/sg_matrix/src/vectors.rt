@@ -11,6 +11,30 @@ use crate::rows::leads_at;
 use sg_num::{Field, Row, Stop};
 use std::alloc::Global;
 
+// The vectors of all free columns.
+pub(crate) fn vectors<F: Field>(
+    alloc: Global,
+    rows: &Row<Row<F>>,
+    width: usize,
+) -> Result<Row<Row<F>>, Stop>
+    requires { IsSystem F.val width rows.now }
+    ensures sized { IfOk result (λ basis. (i : ℕ) → i < length basis → length (get_or basis i []) ≡ width) }
+    ensures sound { IfOk result (AreNull F.val rows.now) }
+    ensures form { IfOk result (λ basis. Form F.val basis) }
+    ensures complete { IfOk result (SpanNull F.val width rows.now) }
+    ensures full { IfOk result (λ basis. length rows.now ≡ width → basis ≡ []) }
+    ensures wide { IfErr result KeepsWideStep }
+{
+    let mut basis = Row::new(alloc);
+    for k in 0..width {
+        match row_at(rows, k) {
+            Some(_row) => {}
+            None => basis.push(vector(alloc, rows, width, k)?)?,
+        }
+    }
+    Ok(basis)
+}
+
 // The row that leads at the column `k`; None where the column is free.
 fn row_at<F: Field>(rows: &Row<Row<F>>, k: usize) -> Option<usize>
     ensures none { IfNone result (IsFree F.val rows.now k) }
@@ -23,6 +47,26 @@ fn row_at<F: Field>(rows: &Row<Row<F>>, k: usize) -> Option<usize>
         }
     }
     None
+}
+
+// The vector of the free column `k`.
+fn vector<F: Field>(
+    alloc: Global,
+    rows: &Row<Row<F>>,
+    width: usize,
+    k: usize,
+) -> Result<Row<F>, Stop>
+    requires free { IsFree F.val rows.now k }
+    requires inside { k < width }
+    requires system { IsSystem F.val width rows.now }
+    ensures value { IfOk result (λ r. (e : IsEchelon F.val rows.now) → IsVector F.val rows.now e.pivot width k r) }
+    ensures wide { IfErr result KeepsWideStep }
+{
+    let mut r = Row::new(alloc);
+    for i in 0..width {
+        r.push(entry(alloc, rows, k, i)?)?;
+    }
+    Ok(r)
 }
 
 // The entry at `i` of the vector of the free column `k`: 1 in this column, 0 in the other free ones, and in the column of a
@@ -48,48 +92,4 @@ fn entry<F: Field>(alloc: Global, rows: &Row<Row<F>>, k: usize, i: usize) -> Res
             Ok(zero)
         }
     }
-}
-
-// The vector of the free column `k`.
-fn vector<F: Field>(
-    alloc: Global,
-    rows: &Row<Row<F>>,
-    width: usize,
-    k: usize,
-) -> Result<Row<F>, Stop>
-    requires free { IsFree F.val rows.now k }
-    requires inside { k < width }
-    requires system { IsSystem F.val width rows.now }
-    ensures value { IfOk result (λ r. (e : IsEchelon F.val rows.now) → IsVector F.val rows.now e.pivot width k r) }
-    ensures wide { IfErr result KeepsWideStep }
-{
-    let mut r = Row::new(alloc);
-    for i in 0..width {
-        r.push(entry(alloc, rows, k, i)?)?;
-    }
-    Ok(r)
-}
-
-// The vectors of all free columns.
-pub(crate) fn vectors<F: Field>(
-    alloc: Global,
-    rows: &Row<Row<F>>,
-    width: usize,
-) -> Result<Row<Row<F>>, Stop>
-    requires { IsSystem F.val width rows.now }
-    ensures sized { IfOk result (λ basis. (i : ℕ) → i < length basis → length (get_or basis i []) ≡ width) }
-    ensures sound { IfOk result (AreNull F.val rows.now) }
-    ensures form { IfOk result (λ basis. Form F.val basis) }
-    ensures complete { IfOk result (SpanNull F.val width rows.now) }
-    ensures full { IfOk result (λ basis. length rows.now ≡ width → basis ≡ []) }
-    ensures wide { IfErr result KeepsWideStep }
-{
-    let mut basis = Row::new(alloc);
-    for k in 0..width {
-        match row_at(rows, k) {
-            Some(_row) => {}
-            None => basis.push(vector(alloc, rows, width, k)?)?,
-        }
-    }
-    Ok(basis)
 }

@@ -160,7 +160,7 @@ fn without<F: Field>(
     Ok(left)
 }
 
-// The two without a linear factor, once, where it divides one of them; None where it divides neither, or a trial doesn't fit.
+// The two without a linear factor, once, where it divides one of them; None where it divides neither, or a division doesn't fit.
 fn without_once<F: Field>(
     alloc: Global,
     rests: &Rests<F>,
@@ -208,20 +208,20 @@ fn without_once<F: Field>(
 
 // A quotient and a rest.
 #[derive(Drop)]
-struct Trial<F: Field> {
+struct Divided<F: Field> {
     quotient: Poly<F>,
     rest: Poly<F>,
 }
 
 // The division by a factor; None where a step of it doesn't fit.
-fn tried<F: Field>(alloc: Global, p: &Poly<F>, factor: &Poly<F>) -> Result<Option<Trial<F>>, Stop>
+fn tried<F: Field>(alloc: Global, p: &Poly<F>, factor: &Poly<F>) -> Result<Option<Divided<F>>, Stop>
     requires { ¬ (polynomial F.val factor.now ≡ zero_polynomial) }
     ensures value { IfOk result (λ o. IfSome o (λ t. IsQuotient F.val p.now factor.now t.quotient t.rest)) }
     ensures smaller { IfOk result (λ o. IfSome o (λ t. length t.rest < length factor.now)) }
     ensures wide { IfErr result KeepsWideStep }
 {
     match p.div_rem(alloc, factor) {
-        Ok((quotient, rest)) => Ok(Some(Trial { quotient, rest })),
+        Ok((quotient, rest)) => Ok(Some(Divided { quotient, rest })),
         Err(Stop::Wide(_)) => Ok(None),
         Err(stop) => Err(stop),
     }

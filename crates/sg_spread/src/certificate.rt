@@ -13,30 +13,31 @@ use sg_matrix::null_basis;
 use sg_num::{Rat, Row, Stop};
 use std::alloc::{AllocError, Global};
 
-// The items of all rows at one place.
-fn column(alloc: Global, rows: &[Row<Rat>], p: usize) -> Result<Row<Rat>, AllocError>
-    requires { (t : ℕ) → t < length rows.now → p < length (get_or rows.now t []) }
-    ensures { IfOk result (λ r. Builds number (λ t. coefficient (map number (get_or rows.now t [])) p) (length rows.now) r) }
+/// The coefficients, not all 0, of a polynomial that is 0 at each shift m at which a(k) and b(k+m) have a common divisor of
+/// positive degree. `a` and `b` are the coefficients of monic polynomials of positive degree. It comes of the first linear
+/// dependence of the powers of j - k, where k is a root of a and j one of b.
+pub(crate) fn certificate(alloc: Global, a: &[Rat], b: &[Rat]) -> Result<Row<Rat>, Stop>
+    requires some { 1 < length a.now }
+    requires others { 1 < length b.now }
+    ensures some { IfOk result (λ r. IsSome (map number r)) }
+    ensures certificate { IfOk result (λ r. Certificate (ValueR 0) (length a.now - 1) (length b.now - 1) (map number a.now) (map number b.now) (map number r)) }
+    ensures wide { IfErr result KeepsWideStep }
 {
-    let mut new = Row::new(alloc);
-    for t in 0..rows.len() {
-        new.push(*rows[t].get(p))?;
+    let Some(size) = (a.len() - 1).checked_mul(b.len() - 1) else {
+        // more numbers than a memory has room for
+        return Err(Stop::Memory(AllocError));
+    };
+    let mut rows = Row::new(alloc);
+    rows.push(first_row(alloc, size)?)?;
+    for _ in 0..size {
+        grow(alloc, a, b, &mut rows)?;
+        let mut basis = dependences(alloc, a, b, &rows, size)?;
+        if !basis.is_empty() {
+            return Ok(basis.remove(0));
+        }
     }
-    Ok(new)
-}
-
-// The rows as the columns of a table with this many rows.
-fn table(alloc: Global, rows: &[Row<Rat>], size: usize) -> Result<Row<Row<Rat>>, AllocError>
-    requires { (t : ℕ) → t < length rows.now → length (get_or rows.now t []) ≡ size }
-    ensures size { IfOk result (λ r. length r ≡ size) }
-    ensures rows { IfOk result (AreColumns rows.now size) }
-{
-    let mut all = Row::new(alloc);
-    for p in 0..size {
-        let row = column(alloc, rows, p)?;
-        all.push(row)?;
-    }
-    Ok(all)
+    // not reached: one more row than they have items are dependent
+    Ok(Row::new(alloc))
 }
 
 // The row after one more step.
@@ -74,29 +75,28 @@ fn dependences(
     Ok(basis)
 }
 
-/// The coefficients, not all 0, of a polynomial that is 0 at each shift m at which a(k) and b(k+m) have a common divisor of
-/// positive degree. `a` and `b` are the coefficients of monic polynomials of positive degree. It comes of the first linear
-/// dependence of the powers of j - k, where k is a root of a and j one of b.
-pub(crate) fn certificate(alloc: Global, a: &[Rat], b: &[Rat]) -> Result<Row<Rat>, Stop>
-    requires some { 1 < length a.now }
-    requires others { 1 < length b.now }
-    ensures some { IfOk result (λ r. IsSome (map number r)) }
-    ensures certificate { IfOk result (λ r. Certificate (ValueR 0) (length a.now - 1) (length b.now - 1) (map number a.now) (map number b.now) (map number r)) }
-    ensures wide { IfErr result KeepsWideStep }
+// The rows as the columns of a table with this many rows.
+fn table(alloc: Global, rows: &[Row<Rat>], size: usize) -> Result<Row<Row<Rat>>, AllocError>
+    requires { (t : ℕ) → t < length rows.now → length (get_or rows.now t []) ≡ size }
+    ensures size { IfOk result (λ r. length r ≡ size) }
+    ensures rows { IfOk result (AreColumns rows.now size) }
 {
-    let Some(size) = (a.len() - 1).checked_mul(b.len() - 1) else {
-        // more numbers than a memory has room for
-        return Err(Stop::Memory(AllocError));
-    };
-    let mut rows = Row::new(alloc);
-    rows.push(first_row(alloc, size)?)?;
-    for _ in 0..size {
-        grow(alloc, a, b, &mut rows)?;
-        let mut basis = dependences(alloc, a, b, &rows, size)?;
-        if !basis.is_empty() {
-            return Ok(basis.remove(0));
-        }
+    let mut all = Row::new(alloc);
+    for p in 0..size {
+        let row = column(alloc, rows, p)?;
+        all.push(row)?;
     }
-    // not reached: one more row than they have items are dependent
-    Ok(Row::new(alloc))
+    Ok(all)
+}
+
+// The items of all rows at one place.
+fn column(alloc: Global, rows: &[Row<Rat>], p: usize) -> Result<Row<Rat>, AllocError>
+    requires { (t : ℕ) → t < length rows.now → p < length (get_or rows.now t []) }
+    ensures { IfOk result (λ r. Builds number (λ t. coefficient (map number (get_or rows.now t [])) p) (length rows.now) r) }
+{
+    let mut new = Row::new(alloc);
+    for t in 0..rows.len() {
+        new.push(*rows[t].get(p))?;
+    }
+    Ok(new)
 }

@@ -15,7 +15,7 @@ use crate::lines::{closed_text, item_text};
 use crate::reply::Reply;
 use sg_expr::Expr;
 use sg_num::Stop;
-use sg_plain::closed_form;
+use sg_polysum::closed_form;
 use sg_text::print;
 use std::alloc::{AllocError, Global};
 

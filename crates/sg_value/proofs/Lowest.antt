@@ -12,7 +12,7 @@ use Rattle.sg_algebra.proofs.Whole.{ℤR, readsℤ}
 use Rattle.sg_spec.specs.Fraction.{Fraction, Same}
 use Rattle.sg_spec.specs.Width.{differ, is_below_zero}
 use Rattle.sg_spec.specs.Steps.{lowest}
-use Rattle.sg_values.proofs.Fractions.{Same-trans, Same-sym}
+use Rattle.sg_spec.proofs.Fractions.{Same-trans, Same-sym}
 use Rattle.sg_num.specs.declared.rat.Rat.{Rat}
 use Rattle.sg_num.specs.Value.{fraction}
 use Rattle.sg_num.proofs.Signs.{unsigned_abs-with_sign}

@@ -6,8 +6,8 @@ use Rattle.std.proofs.Common.{◌≡◌, ◌≢◌, zero, suc, ◌<◌, ℤ, pos
 use Rattle.sg_spec.specs.Fraction.{Fraction, Same, over}
 use Rattle.sg_spec.specs.Value.{unless_zero}
 use Rattle.sg_spec.specs.Steps.{Step, AllFit, IsFirstMisfit, lowest, fits_by, step_fits, result_of, after_value, made}
-use Rattle.sg_values.proofs.Fractions.{Same-trans}
-use Rattle.sg_values.proofs.Values.{product_positive}
+use Rattle.sg_spec.proofs.Fractions.{Same-trans}
+use Rattle.sg_spec.proofs.Values.{product_positive}
 use Rattle.sg_num.specs.declared.step.Op.{Op}
 use Rattle.sg_num.specs.declared.step.Op.TheVariants.{Add, Sub, Mul, Div}
 use Rattle.sg_num.specs.declared.step.Wide.{Wide}
@@ -17,7 +17,7 @@ use Rattle.sg_num.specs.Steps.{outcome, fits_step}
 use Rattle.sg_value.specs.declared.step.Outcome.TheVariants.{Value, NoValue, TooWide}
 use Rattle.sg_value.specs.Answer.{operation_of, step_of, Stands, Answers}
 use Rattle.sg_value.proofs.Lowest.{lowest_is, above_zero}
-use Rattle.sg_values.proofs.Results.{plus_same, minus_same, times_same, over_same, zero_same}
+use Rattle.sg_spec.proofs.Results.{plus_same, minus_same, times_same, over_same, zero_same}
 use Rattle.sg_value.proofs.Fitting.{misfit-one}
 
 -- what an operation makes of equal operands

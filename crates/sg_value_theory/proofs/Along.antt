@@ -8,7 +8,7 @@ use Rattle.sg_algebra.proofs.Solver.{ring, by, scale, reads}
 use Rattle.sg_algebra.proofs.Value.{Value, ◌+ᵛ◌, ◌-ᵛ◌, one_value}
 use Rattle.sg_algebra.proofs.ValueField.{ValueR}
 use Rattle.sg_spec.specs.Tree.{Tree, sum_from}
-use Rattle.sg_values.proofs.Totals.{from_on}
+use Rattle.sg_spec.proofs.Totals.{from_on}
 use Rattle.sg_tower_theory.proofs.Difference.{delta}
 use Rattle.sg_tower_theory.proofs.Formal.{Formal, Element, elements, shifted}
 use Rattle.sg_spec.specs.Worth.{HasWorth}

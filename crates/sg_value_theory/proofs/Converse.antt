@@ -10,9 +10,9 @@ use Rattle.sg_spec.specs.Fraction.{Fraction}
 use Rattle.sg_spec.specs.Tree.{Tree, add, neg, sum_from}
 use Rattle.sg_spec.specs.Generators.{Allowed, BuiltOver}
 use Rattle.sg_spec.specs.Value.{val, both, sum_of, opposite_of, SameValue, total}
-use Rattle.sg_values.proofs.Totals.{from_on, total-step}
-use Rattle.sg_values.proofs.Values.{IsProper, val-proper}
-use Rattle.sg_values.proofs.Worth.{Worth, worth_same, same_worth, worth-sum, worth-opposite}
+use Rattle.sg_spec.proofs.Totals.{from_on, total-step}
+use Rattle.sg_spec.proofs.Values.{IsProper, val-proper}
+use Rattle.sg_spec.proofs.Worth.{Worth, worth_same, same_worth, worth-sum, worth-opposite}
 use Rattle.sg_value_theory.proofs.NumberParts.{right_number, HasNumber, number_unique, both_parts}
 use Rattle.sg_spec.specs.Telescoping.{difference_of, Tele}
 use Rattle.sg_value_theory.proofs.Joined.{worth-difference, difference_proper}

@@ -14,8 +14,8 @@ use Rattle.sg_spec.specs.Fraction.{Fraction}
 use Rattle.sg_spec.specs.Tree.{Tree, numeral, here, param, add, neg, mul, div, power, sum_from, prod_from}
 use Rattle.sg_spec.specs.Value.{val, both, sum_of, product_of, quotient_of}
 use Rattle.sg_spec.specs.Generators.{Over}
-use Rattle.sg_values.proofs.Values.{val-proper}
-use Rattle.sg_values.proofs.Worth.{Worth, worth-sum, worth-product, worth-opposite, worth-power}
+use Rattle.sg_spec.proofs.Values.{val-proper}
+use Rattle.sg_spec.proofs.Worth.{Worth, worth-sum, worth-product, worth-opposite, worth-power}
 use Rattle.sg_value_theory.proofs.NumberParts.{HasNumber, number_unique, both_parts, opposite_part, power_part, quotient_worth, pow-mul}
 use Rattle.sg_tower_theory.proofs.Lawful.{Lawful}
 use Rattle.sg_value_theory.proofs.Places.{Places}

@@ -17,8 +17,8 @@ use Rattle.sg_spec.specs.Fraction.{Fraction}
 use Rattle.sg_spec.specs.Tree.{Tree, here}
 use Rattle.sg_spec.specs.Value.{val, both, SameValue}
 use Rattle.sg_spec.specs.Generators.{Over}
-use Rattle.sg_values.proofs.Values.{IsProper, val-proper, product_positive}
-use Rattle.sg_values.proofs.Worth.{number_of, Worth, worth_same, same_worth}
+use Rattle.sg_spec.proofs.Values.{IsProper, val-proper, product_positive}
+use Rattle.sg_spec.proofs.Worth.{number_of, Worth, worth_same, same_worth}
 use Rattle.sg_spec.specs.Telescoping.{difference_of, Tele, Failing, Agree}
 use Rattle.sg_tower_theory.proofs.Nested.{Telescopes}
 use Rattle.sg_tower_theory.proofs.Lawful.{Lawful}

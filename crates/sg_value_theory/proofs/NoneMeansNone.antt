@@ -17,7 +17,7 @@ use Rattle.sg_algebra.proofs.Rational.{whole_value, fraction_value-whole}
 use Rattle.sg_spec.specs.Tree.{Tree, here, numeral, param, add, neg, mul, div, power, sum_from, prod_from}
 use Rattle.sg_spec.specs.Value.{val, SameValue, both}
 use Rattle.sg_spec.specs.Generators.{Over, Allowed, BuiltOver as OwnBuilt}
-use Rattle.sg_values.proofs.Worth.{Worth}
+use Rattle.sg_spec.proofs.Worth.{Worth}
 use Rattle.sg_spec.specs.Telescoping.{Tele, Failing, Agree, difference_of}
 use Rattle.sg_tower_theory.proofs.Difference.{delta}
 use Rattle.sg_tower_theory.proofs.Lawful.{Lawful}

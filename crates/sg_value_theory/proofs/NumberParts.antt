@@ -13,8 +13,8 @@ use Rattle.sg_algebra.proofs.ValueField.{ValueR, value_product}
 use Rattle.sg_algebra.proofs.Rational.{fraction_value-over, zero_fraction_value}
 use Rattle.sg_spec.specs.Fraction.{Fraction, over}
 use Rattle.sg_spec.specs.Value.{both, quotient_of, unless_zero, opposite_of, power_of, SameValue}
-use Rattle.sg_values.proofs.Values.{IsProper}
-use Rattle.sg_values.proofs.Worth.{number_of, Worth}
+use Rattle.sg_spec.proofs.Values.{IsProper}
+use Rattle.sg_spec.proofs.Worth.{number_of, Worth}
 
 abbrev pub HasNumber : Option Fraction → Type 0
 HasNumber u = (v : Value 0) × Worth u v

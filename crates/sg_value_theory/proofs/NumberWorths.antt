@@ -9,8 +9,8 @@ use Rattle.sg_algebra.proofs.Rational.{whole_value, fraction_value-zero, fractio
 use Rattle.sg_spec.specs.Fraction.{Fraction, whole}
 use Rattle.sg_spec.specs.Tree.{Tree, numeral, here, param, add, neg, mul, div, power, sum_from, prod_from}
 use Rattle.sg_spec.specs.Value.{val, both, sum_of, product_of, quotient_of, folded, how_many}
-use Rattle.sg_values.proofs.Values.{IsProper, val-proper}
-use Rattle.sg_values.proofs.Worth.{Worth, number_of, worth-sum, worth-product, worth-opposite, worth-power}
+use Rattle.sg_spec.proofs.Values.{IsProper, val-proper}
+use Rattle.sg_spec.proofs.Worth.{Worth, number_of, worth-sum, worth-product, worth-opposite, worth-power}
 use Rattle.sg_spec.specs.Worth.{IsFolded, HasWorth}
 use Rattle.sg_value_theory.proofs.NumberParts.{HasNumber, number_unique, both_parts, opposite_part, power_part, quotient_worth}
 use Rattle.sg_written.proofs.Worths.{sums_proper, products_proper}

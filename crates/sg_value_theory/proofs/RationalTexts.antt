@@ -14,8 +14,8 @@ use Rattle.sg_algebra.proofs.Rational.{whole_value, fraction_value-whole}
 use Rattle.sg_spec.specs.Tree.{Tree, numeral, here, param, add, neg, mul, div, power, sum_from, prod_from}
 use Rattle.sg_spec.specs.Value.{val, both, sum_of, product_of, quotient_of}
 use Rattle.sg_spec.specs.Generators.{Over}
-use Rattle.sg_values.proofs.Values.{val-proper}
-use Rattle.sg_values.proofs.Worth.{Worth, worth-sum, worth-product, worth-opposite, worth-power}
+use Rattle.sg_spec.proofs.Values.{val-proper}
+use Rattle.sg_spec.proofs.Worth.{Worth, worth-sum, worth-product, worth-opposite, worth-power}
 use Rattle.sg_spec.specs.Telescoping.{difference_of, Tele}
 use Rattle.sg_tower_theory.proofs.Nested.{Telescopes}
 use Rattle.sg_tower_theory.proofs.ShiftValue.{shift_valueH}
@@ -44,7 +44,7 @@ module _ (k0 : ℤ) where
       → ((g : Value 1) → ¬ Telescopes (ValueR 1) (shift_valueH 0) g x) → (e : Tree) → Over [] e → ¬ Tele e f
   rational_none = none_in_values (ValueD 1) (shift_valueH 0) (rational_places 0 k0) (lawful_rational 0) k0 (integral_field (ValueF 1) (shift_valueH 0)) [] no_sums (variable 0) variable_known
 
-pub element_of : Tree → Value 1
+unfoldable pub element_of : Tree → Value 1
 element_of (numeral c) = whole_value 1 c
 element_of here = variable 0
 element_of param = zero_value

@@ -13,9 +13,9 @@ use Rattle.sg_spec.specs.Closed.{Closed, IsOverOwn}
 use Rattle.sg_spec.specs.Worth.{HasWorth}
 use Rattle.sg_value_theory.proofs.Evaluation.{Evaluation}
 use Rattle.sg_spec.specs.Value.{val, SameValue, total}
-use Rattle.sg_values.proofs.Values.{val-proper}
-use Rattle.sg_values.proofs.Worth.{worth_same}
-use Rattle.sg_values.proofs.Totals.{from_on}
+use Rattle.sg_spec.proofs.Values.{val-proper}
+use Rattle.sg_spec.proofs.Worth.{worth_same}
+use Rattle.sg_spec.proofs.Totals.{from_on}
 use Rattle.sg_written.proofs.Worths.{worth_number}
 use Rattle.sg_written.proofs.Closes.{no_letter, total_closes}
 

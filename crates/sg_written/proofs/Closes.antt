@@ -12,9 +12,9 @@ use Rattle.sg_spec.specs.Tree.{Tree, sum_from}
 use Rattle.sg_spec.specs.Value.{val, how_many, steps_to, SameValue, total}
 use Rattle.sg_spec.specs.Generators.{sums, prods, start}
 use Rattle.sg_spec.specs.Closed.{Closed, IsOverOwn}
-use Rattle.sg_values.proofs.Values.{val-proper}
-use Rattle.sg_values.proofs.Worth.{worth_same}
-use Rattle.sg_values.proofs.Totals.{from_on}
+use Rattle.sg_spec.proofs.Values.{val-proper}
+use Rattle.sg_spec.proofs.Worth.{worth_same}
+use Rattle.sg_spec.proofs.Totals.{from_on}
 use Rattle.sg_spec.specs.Worth.{IsFolded, HasWorth}
 use Rattle.sg_written.proofs.Worths.{worth_number}
 

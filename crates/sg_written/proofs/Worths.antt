@@ -10,8 +10,8 @@ use Rattle.sg_algebra.proofs.Rational.{whole_value, fraction_value-zero, fractio
 use Rattle.sg_spec.specs.Fraction.{Fraction, whole, over}
 use Rattle.sg_spec.specs.Tree.{Tree, numeral, here, param, add, neg, mul, div, power, sum_from, prod_from}
 use Rattle.sg_spec.specs.Value.{val, both, sum_of, product_of, quotient_of, unless_zero, opposite_of, power_of, folded, how_many}
-use Rattle.sg_values.proofs.Values.{IsProper, val-proper, sum_proper, product_positive}
-use Rattle.sg_values.proofs.Worth.{Worth, number_of, worth_cong, worth-sum, worth-product, worth-opposite, worth-whole, worth-power}
+use Rattle.sg_spec.proofs.Values.{IsProper, val-proper, sum_proper, product_positive}
+use Rattle.sg_spec.proofs.Worth.{Worth, number_of, worth_cong, worth-sum, worth-product, worth-opposite, worth-whole, worth-power}
 use Rattle.sg_spec.specs.Worth.{IsFolded, HasWorth}
 
 pub folded_unique : {B : Type 0} (op : B → B → B) (start : B) (term : ℤ → B → Type 0) → ((j : ℤ) (u w : B) → term j u → term j w → u ≡ w)

@@ -1,5 +1,0 @@
-pub mod Fractions
-pub mod Values
-pub mod Totals
-pub mod Worth
-pub mod Results

@@ -12,3 +12,5 @@ pub mod Under
 pub mod System
 pub mod Basis
 pub mod Naturals
+pub mod Bounded
+pub mod NoPole

@@ -5,11 +5,10 @@
 --   sum_consts m ps i      m 0 times the constant at i of the first pair, plus m 1 times that of the second, ..
 --   sum_values m ps        the same of the values
 --   Combination ps r c g   c (its first r constants) and g are such a sum
---   quotient_of v f        the quotient of two lists of coefficients, where v says what a coefficient stands for
 --   IsBasis a fs ps        each pair solves the equation, each solution is such a sum, and only the sum with all factors 0 is 0
-use Rattle.std.specs.Prelude.{◌≡◌, ℕ, suc, ◌<◌, List, [], ◌∷◌, map, length}
+use Rattle.std.specs.Prelude.{◌≡◌, ℕ, suc, ◌<◌, List, [], ◌∷◌, length}
 use Rattle.sg_algebra.specs.Coefficients.{Each}
-use Rattle.sg_algebra.proofs.Value.{Value, over_value, zero_value, ◌+ᵛ◌, ◌-ᵛ◌, ◌*ᵛ◌}
+use Rattle.sg_algebra.proofs.Value.{Value, zero_value, ◌+ᵛ◌, ◌-ᵛ◌, ◌*ᵛ◌}
 use Rattle.sg_algebra.proofs.Embedding.{constant_value}
 use Rattle.sg_algebra.proofs.Polynomial.{coefficient}
 use Rattle.sg_shift.proofs.ShiftValue.{shift_value}
@@ -47,7 +46,3 @@ module _ {d : ℕ} where
     pub solves : Each (λ p. Solves a fs (coefficient p.consts) p.value) ps
     pub spans : (c : ℕ → Value d) (g : Value (suc d)) → Solves a fs c g → Combination ps (length fs) c g
     pub independent : (m : ℕ → Value d) → ((i : ℕ) → i < length fs → sum_consts m ps i ≡ zero_value) → sum_values m ps ≡ zero_value → (l : ℕ) → l < length ps → m l ≡ zero_value
-
-module _ {K : Type 0} {d : ℕ} (v : K → Value d) where
-  abbrev pub quotient_of : List K × List K → Value (suc d)
-  quotient_of f = over_value (map v f.0) (map v f.1)

@@ -1,0 +1,14 @@
+pub mod Sizes
+pub mod PlaneValues
+pub mod Bounds
+pub mod Glue
+pub mod Dividing
+pub mod Quotients
+pub mod AllRows
+pub mod Shapes
+pub mod Adding
+pub mod Planar
+pub mod Weighing
+pub mod Fractions
+pub mod Sames
+pub mod PartExamples

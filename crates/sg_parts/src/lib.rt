@@ -1,0 +1,13 @@
+//! Parts of divisors and of bodies of products as polynomials: their weights, coefficients and whole roots.
+#![tactic(auto)]
+
+mod line;
+mod planes;
+mod ratios;
+mod roots;
+mod rows;
+mod weights;
+mod zeros;
+
+pub use line::Line;
+pub use zeros::{Zero, zero_of};

@@ -1,0 +1,11 @@
+//! First-order equations over rational functions.
+#![tactic(auto)]
+
+mod degree;
+mod denominator;
+mod dispersion;
+mod first;
+mod system;
+
+pub use first::solve_first;
+pub use sg_matrix::Solution;

@@ -1,5 +1,5 @@
 -- Lists of items that stand for elements of a ring, built by pushes.
-use Rattle.std.proofs.Common.{◌≡◌, ℕ, zero, suc, ◌+◌, ◌<◌, ◌≤◌, refl, sym, ◌∙◌, ap, subst, List, [], ◌∷◌, ◌++◌, map, length, take, get_or, ◌⊎◌, inl, inr, arith}
+use Rattle.std.proofs.Common.{◌≡◌, ℕ, zero, suc, ◌+◌, ◌<◌, ◌≤◌, refl, sym, ap, subst, List, [], ◌∷◌, ◌++◌, map, length, take, get_or, ◌⊎◌, inl, inr, arith}
 use Rattle.sg_algebra.specs.Ring.{Ring}
 use Rattle.sg_algebra.specs.Coefficients.{coef, Each}
 use Rattle.sg_algebra.proofs.Place.{Pairwise}
@@ -64,6 +64,9 @@ pairwise_push P [] [] x y p h = (h, tt)
 pairwise_push P [] (b ∷ ys) x y p h = absurd p
 pairwise_push P (a ∷ xs) [] x y p h = absurd p
 pairwise_push P (a ∷ xs) (b ∷ ys) x y p h = (p.0, pairwise_push P xs ys x y p.1 h)
+
+pub pairwise_more : {X Y : Type 0} (P : X → Y → Type 0) (xs : List X) (ys new : List Y) (x : X) (y : Y) → Pairwise P xs ys → P x y → new ≡ ys ++ y ∷ [] → Pairwise P (xs ++ x ∷ []) new
+pairwise_more P xs ys new x y p h s = rw s (pairwise_push P xs ys x y p h)
 
 pub take_next : {X : Type 0} (xs : List X) (i : ℕ) (x : X) → i < length xs → x ≡ get_or xs i x → take (i + 1) xs ≡ take i xs ++ x ∷ []
 take_next [] i x h e = absurd (omega arith)

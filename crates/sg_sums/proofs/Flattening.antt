@@ -3,7 +3,7 @@
 --   of_terms-append       the terms of two lists one behind the other stand for the sum
 --   of_terms-raised       terms times t^n stand for the element times t^n
 --   flat_start, flat_next, flat_end    the terms of the powers from some k on
-use Rattle.std.proofs.Common.{◌≡◌, ℕ, zero, suc, ◌+◌, ◌<◌, ◌≤◌, refl, sym, ◌∙◌, ap, subst, List, [], ◌∷◌, ◌++◌, map, length, reverse, drop, get_or, ◌⊎◌, inl, inr, arith, ℤ, pos, ◌≤ℤ◌, ◌<ℤ◌}
+use Rattle.std.proofs.Common.{◌≡◌, ℕ, zero, suc, ◌+◌, ◌<◌, ◌≤◌, refl, sym, ap, subst, List, [], ◌∷◌, ◌++◌, map, length, reverse, drop, get_or, ◌⊎◌, inl, inr, arith, ℤ, pos, ◌≤ℤ◌, ◌<ℤ◌}
 use Rattle.std.proofs.lemmas.Int.{ints}
 use Rattle.std.proofs.lemmas.List.{reverse-append, drop-append-le, length-append, map-append}
 use Rattle.sg_algebra.specs.Ring.{Ring}
@@ -13,8 +13,9 @@ use Rattle.sg_algebra.proofs.PolynomialRing.{PolyR, coef-zip}
 use Rattle.sg_algebra.proofs.Value.{Value, zero_value}
 use Rattle.sg_tower_theory.proofs.Above.{monomial, monomial-at, monomial-past, monomials-add, monomials-none}
 use Rattle.sg_tower_theory.proofs.Formal.{Formal, Element, elements, shifted, one_more}
-use Rattle.sg_tower_theory.proofs.Flat.{Term, IsAfter, of_term, of_terms, term_in, raised_to, DescendingTerms, IsLowestForm, IsFlat}
+use Rattle.sg_tower_theory.proofs.Flat.{Term, IsAfter, of_term, of_terms, raised_to, DescendingTerms, IsLowestForm, IsFlat}
 use Rattle.sg_tower.specs.declared.flat.FlatTerm.{FlatTerm}
+use Rattle.sg_tower.specs.Elements.{Reading, raised}
 use Rattle.sg_tower.specs.Terms.{term_of, HasTerms}
 use Rattle.sg_sums.proofs.Building.{at_read, at_past}
 use Rattle.sg_sums.specs.Flattened.{with_power, EndsFrom, IsFlatFrom}
@@ -138,24 +139,24 @@ module _ {d : ℕ} where
     flat_end q ts h = record { same = record { image = record { at = λ i. symm (h.above i (omega arith)) } }; sized = h.sized; natural = h.natural; descending = h.descending; nonzero = h.nonzero; lowest = h.lowest }
 
 -- ---- The same for items
-module _ {d : ℕ} (f : Formal d) {E : Type 0} (m : E → Element f) {K : Type 0} (v : K → Value d) where
-  pub terms-raised : (n : ℕ) (us : List (FlatTerm K)) → map (term_of f m v) (map (with_power n) us) ≡ map (raised_term n) (map (term_of f m v) us)
+module _ {d : ℕ} {E : Type 0} (ρ : Reading d E) {K : Type 0} (v : K → Value d) where
+  pub terms-raised : (n : ℕ) (us : List (FlatTerm K)) → map (term_of v) (map (with_power n) us) ≡ map (raised_term n) (map (term_of v) us)
   terms-raised n [] = refl
-  terms-raised n (t ∷ us) = ap (◌∷◌ (term_of f m v (with_power n t))) (terms-raised n us)
+  terms-raised n (t ∷ us) = ap (◌∷◌ (term_of v (with_power n t))) (terms-raised n us)
 
-  pub flat_first : (β : Element f) (p : List E) (ts : List (FlatTerm K)) (k : ℕ) → ts ≡ [] → k ≡ length p → IsFlatFrom f β (map m p) k (map (term_of f m v) ts)
-  flat_first β p ts k e l = rw e (flat_start f β (map m p) k (λ i h. past p i (omega (arith, l, h))))
+  pub flat_first : (β : E) (p : List E) (ts : List (FlatTerm K)) (k : ℕ) → ts ≡ [] → k ≡ length p → IsFlatFrom ρ.formal (ρ.of β) (map ρ.of p) k (map (term_of v) ts)
+  flat_first β p ts k e l = rw e (flat_start ρ.formal (ρ.of β) (map ρ.of p) k (λ i h. past p i (omega (arith, l, h))))
     where
-      past : (p : List E) (i : ℕ) → length p ≤ i → (elements f).◌≈◌ (coef (elements f) (map m p) i) (elements f).O
-      past p i h = rw (at_past (elements f) m p i h) (elements f).rfl
+      past : (p : List E) (i : ℕ) → length p ≤ i → (elements ρ.formal).◌≈◌ (coef (elements ρ.formal) (map ρ.of p) i) (elements ρ.formal).O
+      past p i h = rw (at_past (elements ρ.formal) ρ.of p i h) (elements ρ.formal).rfl
 
-  pub flat_more : (β : Element f) (p : List E) (n : ℕ) (x : E) (old new us : List (FlatTerm K)) → IsFlatFrom f β (map m p) (n + 1) (map (term_of f m v) old) → n < length p → x ≡ get_or p n x → HasTerms f m v x us → new ≡ old ++ map (with_power n) us
-      → IsFlatFrom f β (map m p) n (map (term_of f m v) new)
-  flat_more β p n x old new us h l e u w = rw (w, map-append (term_of f m v) old (map (with_power n) us), terms-raised n us)
-      (flat_next f β (map m p) n (m x) (map (term_of f m v) old) (map (term_of f m v) us) (subst (λ (k : ℕ). IsFlatFrom f β (map m p) k (map (term_of f m v) old)) (up n) h) (rw (at_read (elements f) m p n x l e) (elements f).rfl) u)
+  pub flat_more : (β : E) (p : List E) (n : ℕ) (x : E) (old new us : List (FlatTerm K)) → IsFlatFrom ρ.formal (ρ.of β) (map ρ.of p) (n + 1) (map (term_of v) old) → n < length p → x ≡ get_or p n x → HasTerms ρ v x us → new ≡ old ++ map (with_power n) us
+      → IsFlatFrom ρ.formal (ρ.of β) (map ρ.of p) n (map (term_of v) new)
+  flat_more β p n x old new us h l e u w = rw (w, map-append (term_of v) old (map (with_power n) us), terms-raised n us)
+      (flat_next ρ.formal (ρ.of β) (map ρ.of p) n (ρ.of x) (map (term_of v) old) (map (term_of v) us) (subst (λ (k : ℕ). IsFlatFrom ρ.formal (ρ.of β) (map ρ.of p) k (map (term_of v) old)) (up n) h) (rw (at_read (elements ρ.formal) ρ.of p n x l e) (elements ρ.formal).rfl) u)
     where
       up : (n : ℕ) → n + 1 ≡ suc n
       up n = omega arith
 
-  pub flat_whole : (β : Element f) (p : List E) (k : ℕ) (ts : List (FlatTerm K)) → IsFlatFrom f β (map m p) k (map (term_of f m v) ts) → k ≡ 0 → HasTerms (one_more f β) (map m) v p ts
-  flat_whole β p k ts h e = flat_end f β (map m p) (map (term_of f m v) ts) (subst (λ (j : ℕ). IsFlatFrom f β (map m p) j (map (term_of f m v) ts)) e h)
+  pub flat_whole : (β : E) (p : List E) (k : ℕ) (ts : List (FlatTerm K)) → IsFlatFrom ρ.formal (ρ.of β) (map ρ.of p) k (map (term_of v) ts) → k ≡ 0 → HasTerms (raised ρ β) v p ts
+  flat_whole β p k ts h e = flat_end ρ.formal (ρ.of β) (map ρ.of p) (map (term_of v) ts) (subst (λ (j : ℕ). IsFlatFrom ρ.formal (ρ.of β) (map ρ.of p) j (map (term_of v) ts)) e h)

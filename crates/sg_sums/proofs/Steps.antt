@@ -1,28 +1,27 @@
 -- What the functions of the recursion keep, over plain variables.
-use Rattle.std.proofs.Common.{◌≡◌, ℕ, zero, suc, ◌+◌, ◌<◌, ◌≤◌, refl, sym, ◌∙◌, ap, ap₂, subst, List, [], ◌∷◌, ◌++◌, map, length, take, get_or, arith}
+use Rattle.std.proofs.Common.{◌≡◌, ℕ, zero, suc, ◌+◌, ◌<◌, ◌≤◌, refl, sym, ◌∙◌, ap, ap₂, subst, List, [], ◌∷◌, map, length, take, get_or, arith}
 use Rattle.sg_algebra.specs.Ring.{Ring}
-use Rattle.sg_algebra.specs.Coefficients.{coef, Each}
 use Rattle.sg_algebra.proofs.Ring.{neg_O, mul_O}
 use Rattle.sg_algebra.proofs.PolynomialRing.{PolyR, coef-zip, coef-each, coef-scale}
 use Rattle.sg_algebra.proofs.Place.{Pairwise}
 use Rattle.sg_algebra.proofs.Polynomial.{coefficient}
 use Rattle.sg_algebra.proofs.Value.{Value, ◌+ᵛ◌, ◌*ᵛ◌}
 use Rattle.sg_algebra.proofs.ValueField.{ValueR}
-use Rattle.sg_tower_theory.proofs.Difference.{Difference, trivial, total, mixed, Solves, Spanned, delta_cong}
-use Rattle.sg_tower_theory.proofs.Above.{above, Delta, monomial, monomial_cong}
+use Rattle.sg_tower_theory.proofs.Difference.{trivial, delta_cong}
+use Rattle.sg_tower_theory.proofs.Above.{above, monomial}
 use Rattle.sg_algebra.proofs.Degree.{Below}
-use Rattle.sg_tower_theory.proofs.Slices.{IsState, IsSides, IsNext, state_next, differences}
+use Rattle.sg_tower_theory.proofs.Slices.{state_next, differences}
 use Rattle.sg_tower_theory.proofs.PowerSlices.{power_slice}
-use Rattle.sg_tower_theory.proofs.Formal.{Formal, Element, elements, shifted, one_more}
+use Rattle.sg_tower_theory.proofs.Formal.{Element, elements, shifted}
 use Rattle.sg_matrix.specs.declared.solution.Solution.{Solution}
 use Rattle.sg_sums.specs.declared.partial.Partial.{Partial}
-use Rattle.sg_tower.specs.Elements.{Same, IsSum, IsDifference, IsProduct, IsMultiple, IsShifted, consts_of, value_of, AllSolve, IsComplete}
-use Rattle.sg_sums.specs.Polynomials.{PolysR, at_place, PolySum, PolyDifference, PolyMultiple, PolyMonomial, partial_consts, partial_value, partial_left, IsExtended, IsCombined, State, Sides, Next}
+use Rattle.sg_tower.specs.Elements.{Reading, raised, IsSum, IsDifference, IsShifted, consts_of, value_of, AllSolve, IsComplete}
+use Rattle.sg_sums.specs.Polynomials.{at_place, PolySum, PolyDifference, PolyMultiple, PolyMonomial, partial_consts, partial_value, partial_left, IsExtended, IsCombined, State, Sides, Next}
 use Rattle.sg_sums.proofs.Building.{Builds, builds_all, at_read, at_past, total_next, total_whole}
 
-module _ {d : ℕ} (f : Formal d) {E : Type 0} (m : E → Element f) where
+module _ {d : ℕ} {E : Type 0} (ρ : Reading d E) where
   abbrev R : Ring
-  R = elements f
+  R = elements ρ.formal
 
   open R use {◌≈◌, ◌⊞◌, ◌⊠◌, ⊟, O, rfl, symm, trans, add_cong, mul_cong, neg_cong, add_O}
   open PolyR R use {◌≈◌ as ◌≋◌, ◌⊞◌ as ◌⊕◌, ◌⊠◌ as ◌⊗◌, ⊟ as ⊖}
@@ -30,78 +29,78 @@ module _ {d : ℕ} (f : Formal d) {E : Type 0} (m : E → Element f) where
   abbrev P : Ring
   P = PolyR R
 
-  pub sum_built : (x y r : List E) (n : ℕ) → Builds R m (λ k. at_place f m x k ⊞ at_place f m y k) n r → length x ≤ n → length y ≤ n → PolySum f m x y r
-  sum_built x y r n b h j = record { image = record { at = λ k. trans (builds_all R m (λ k. at_place f m x k ⊞ at_place f m y k) n r b past k) (symm (coef-zip R (map m x) (map m y) k)) } }
+  pub sum_built : (x y r : List E) (n : ℕ) → Builds R ρ.of (λ k. at_place ρ x k ⊞ at_place ρ y k) n r → length x ≤ n → length y ≤ n → PolySum ρ x y r
+  sum_built x y r n b h j = record { image = record { at = λ k. trans (builds_all R ρ.of (λ k. at_place ρ x k ⊞ at_place ρ y k) n r b past k) (symm (coef-zip R (map ρ.of x) (map ρ.of y) k)) } }
     where
-      past : (k : ℕ) → n ≤ k → at_place f m x k ⊞ at_place f m y k ≈ O
-      past k l = rw (at_past R m x k (omega arith), at_past R m y k (omega arith)) add_O
+      past : (k : ℕ) → n ≤ k → at_place ρ x k ⊞ at_place ρ y k ≈ O
+      past k l = rw (at_past R ρ.of x k (omega arith), at_past R ρ.of y k (omega arith)) add_O
 
-  pub difference_built : (x y r : List E) (n : ℕ) → Builds R m (λ k. at_place f m x k ⊞ ⊟ (at_place f m y k)) n r → length x ≤ n → length y ≤ n → PolyDifference f m x y r
+  pub difference_built : (x y r : List E) (n : ℕ) → Builds R ρ.of (λ k. at_place ρ x k ⊞ ⊟ (at_place ρ y k)) n r → length x ≤ n → length y ≤ n → PolyDifference ρ x y r
   difference_built x y r n b h j = record {
     image = record {
-      at = λ k. trans (builds_all R m (λ k. at_place f m x k ⊞ ⊟ (at_place f m y k)) n r b past k)
-          (symm (trans (coef-zip R (map m x) (⊖ (map m y)) k) (add_cong rfl (coef-each R ⊟ (neg_O R) (map m y) k))));
+      at = λ k. trans (builds_all R ρ.of (λ k. at_place ρ x k ⊞ ⊟ (at_place ρ y k)) n r b past k)
+          (symm (trans (coef-zip R (map ρ.of x) (⊖ (map ρ.of y)) k) (add_cong rfl (coef-each R ⊟ (neg_O R) (map ρ.of y) k))));
     };
   }
     where
-      past : (k : ℕ) → n ≤ k → at_place f m x k ⊞ ⊟ (at_place f m y k) ≈ O
-      past k l = rw (at_past R m x k (omega arith), at_past R m y k (omega arith)) (R.add_neg)
+      past : (k : ℕ) → n ≤ k → at_place ρ x k ⊞ ⊟ (at_place ρ y k) ≈ O
+      past k l = rw (at_past R ρ.of x k (omega arith), at_past R ρ.of y k (omega arith)) (R.add_neg)
 
-  pub multiple_built : (e : Element f) (x r : List E) (n : ℕ) → Builds R m (λ k. e ⊠ at_place f m x k) n r → n ≡ length x → PolyMultiple f m e x r
-  multiple_built e x r n b h = record { image = record { at = λ k. trans (builds_all R m (λ k. e ⊠ at_place f m x k) n r b past k) (symm (coef-scale R e (map m x) k)) } }
+  pub multiple_built : (e : Element ρ.formal) (x r : List E) (n : ℕ) → Builds R ρ.of (λ k. e ⊠ at_place ρ x k) n r → n ≡ length x → PolyMultiple ρ e x r
+  multiple_built e x r n b h = record { image = record { at = λ k. trans (builds_all R ρ.of (λ k. e ⊠ at_place ρ x k) n r b past k) (symm (coef-scale R e (map ρ.of x) k)) } }
     where
-      past : (k : ℕ) → n ≤ k → e ⊠ at_place f m x k ≈ O
-      past k l = rw (at_past R m x k (omega arith)) (mul_O R)
+      past : (k : ℕ) → n ≤ k → e ⊠ at_place ρ x k ≈ O
+      past k l = rw (at_past R ρ.of x k (omega arith)) (mul_O R)
 
-  pub sum_step : (x y : List E) (i : ℕ) (a b s : E) → IsSum f m a b s → m a ≈ at_place f m x i → m b ≈ at_place f m y i → m s ≈ at_place f m x i ⊞ at_place f m y i
+  pub sum_step : (x y : List E) (i : ℕ) (a b s : E) → IsSum ρ a b s → ρ.of a ≈ at_place ρ x i → ρ.of b ≈ at_place ρ y i → ρ.of s ≈ at_place ρ x i ⊞ at_place ρ y i
   sum_step x y i a b s e h j = trans e (add_cong h j)
 
-  pub difference_step : (x y : List E) (i : ℕ) (a b s : E) → IsDifference f m a b s → m a ≈ at_place f m x i → m b ≈ at_place f m y i → m s ≈ at_place f m x i ⊞ ⊟ (at_place f m y i)
+  pub difference_step : (x y : List E) (i : ℕ) (a b s : E) → IsDifference ρ a b s → ρ.of a ≈ at_place ρ x i → ρ.of b ≈ at_place ρ y i → ρ.of s ≈ at_place ρ x i ⊞ ⊟ (at_place ρ y i)
   difference_step x y i a b s e h j = trans e (add_cong h (neg_cong j))
 
-  pub multiple_step : (c : Element f) (x : List E) (i : ℕ) (a s : E) → i < length x → a ≡ get_or x i a → m s ≈ c ⊠ m a → m s ≈ c ⊠ at_place f m x i
-  multiple_step c x i a s l e h = rw (at_read R m x i a l e) h
+  pub multiple_step : (c : Element ρ.formal) (x : List E) (i : ℕ) (a s : E) → i < length x → a ≡ get_or x i a → ρ.of s ≈ c ⊠ ρ.of a → ρ.of s ≈ c ⊠ at_place ρ x i
+  multiple_step c x i a s l e h = rw (at_read R ρ.of x i a l e) h
 
-  mono_any : (β γ : Element f) (n : ℕ) (a : Element f) → monomial (shifted f) β n a ≡ monomial (shifted f) γ n a
-  mono_any β γ zero a = refl
-  mono_any β γ (suc n) a = ap (◌∷◌ O) (mono_any β γ n a)
+  mono_any : (y z : Element ρ.formal) (n : ℕ) (a : Element ρ.formal) → monomial (shifted ρ.formal) y n a ≡ monomial (shifted ρ.formal) z n a
+  mono_any y z zero a = refl
+  mono_any y z (suc n) a = ap (◌∷◌ O) (mono_any y z n a)
 
-  module _ {K : Type 0} (v : K → Value d) (β : Element f) where
-    pub combined_start : (c : ℕ → Value d) (r : Partial K E) → r.coeffs ≡ [] → r.value ≡ [] → r.left ≡ [] → IsCombined f m v β c [] r
+  module _ {K : Type 0} (v : K → Value d) (β : E) where
+    pub combined_start : (c : ℕ → Value d) (r : Partial K E) → r.coeffs ≡ [] → r.value ≡ [] → r.left ≡ [] → IsCombined ρ v β c [] r
     combined_start c r h j k = record { coeffs = λ i. rw h refl; value = rw j P.rfl; left = rw k P.rfl }
 
-    pub combined_next : (c : ℕ → Value d) (rows : List (Partial K E)) (i : ℕ) (x : Value d) (row acc r : Partial K E) → IsCombined f m v β c (take i rows) acc → i < length rows → row ≡ get_or rows i row → x ≡ c i → IsExtended f m v O acc x row r
-        → IsCombined f m v β c (take (i + 1) rows) r
+    pub combined_next : (c : ℕ → Value d) (rows : List (Partial K E)) (i : ℕ) (x : Value d) (row acc r : Partial K E) → IsCombined ρ v β c (take i rows) acc → i < length rows → row ≡ get_or rows i row → x ≡ c i → IsExtended ρ v acc x row r
+        → IsCombined ρ v β c (take (i + 1) rows) r
     combined_next c rows i x row acc r b l e s h = record {
-      coeffs = λ j. h.coeffs j ∙ ap₂ ◌+ᵛ◌ (b.coeffs j) (ap (λ z. z *ᵛ partial_consts f m v row j) s) ∙ sym (total_next (trivial (ValueR d)) (λ w. partial_consts f m v w j) c rows i row l e);
-      value = P.trans h.value (P.trans (P.add_cong b.value (P.mul_cong ((above (shifted f) β).κ.on_cong x (c i) s) (P.rfl {x = partial_value f m v row}))) (P.symm (total_next (above (shifted f) β) (partial_value f m v) c rows i row l e)));
-      left = P.trans h.left (P.trans (P.add_cong b.left (P.mul_cong ((above (shifted f) β).κ.on_cong x (c i) s) (P.rfl {x = partial_left f m v row}))) (P.symm (total_next (above (shifted f) β) (partial_left f m v) c rows i row l e)));
+      coeffs = λ j. h.coeffs j ∙ ap₂ ◌+ᵛ◌ (b.coeffs j) (ap (λ z. z *ᵛ partial_consts ρ v row j) s) ∙ sym (total_next (trivial (ValueR d)) (λ w. partial_consts ρ v w j) c rows i row l e);
+      value = P.trans h.value (P.trans (P.add_cong b.value (P.mul_cong ((above (shifted ρ.formal) (ρ.of β)).κ.on_cong x (c i) s) (P.rfl {x = partial_value ρ v row}))) (P.symm (total_next (above (shifted ρ.formal) (ρ.of β)) (partial_value ρ v) c rows i row l e)));
+      left = P.trans h.left (P.trans (P.add_cong b.left (P.mul_cong ((above (shifted ρ.formal) (ρ.of β)).κ.on_cong x (c i) s) (P.rfl {x = partial_left ρ v row}))) (P.symm (total_next (above (shifted ρ.formal) (ρ.of β)) (partial_left ρ v) c rows i row l e)));
     }
 
-    pub combined_whole : (c : ℕ → Value d) (rows : List (Partial K E)) (i : ℕ) (r : Partial K E) → IsCombined f m v β c (take i rows) r → i ≡ length rows → IsCombined f m v β c rows r
+    pub combined_whole : (c : ℕ → Value d) (rows : List (Partial K E)) (i : ℕ) (r : Partial K E) → IsCombined ρ v β c (take i rows) r → i ≡ length rows → IsCombined ρ v β c rows r
     combined_whole c rows i r b e = record {
-      coeffs = λ j. b.coeffs j ∙ total_whole (trivial (ValueR d)) (λ w. partial_consts f m v w j) c rows i e;
-      value = P.trans b.value (total_whole (above (shifted f) β) (partial_value f m v) c rows i e);
-      left = P.trans b.left (total_whole (above (shifted f) β) (partial_left f m v) c rows i e);
+      coeffs = λ j. b.coeffs j ∙ total_whole (trivial (ValueR d)) (λ w. partial_consts ρ v w j) c rows i e;
+      value = P.trans b.value (total_whole (above (shifted ρ.formal) (ρ.of β)) (partial_value ρ v) c rows i e);
+      left = P.trans b.left (total_whole (above (shifted ρ.formal) (ρ.of β)) (partial_left ρ v) c rows i e);
     }
 
     module _ (fs : List (List E)) (n : ℕ) (rows : List (Partial K E)) (ls : List E) where
-      pub next_is : (w : Solution K E) (sum r : Partial K E) (power moved difference : List E) → IsCombined f m v β (consts_of f m v w) rows sum → PolyMonomial f m n w.value power → IsShifted (one_more f β) (map m) power moved
-          → PolyDifference f m moved power difference → r.coeffs ≡ sum.coeffs → PolySum f m sum.value power r.value → PolyDifference f m sum.left difference r.left → Next f m v β fs n rows ls w r
+      pub next_is : (w : Solution K E) (sum r : Partial K E) (power moved difference : List E) → IsCombined ρ v β (consts_of ρ v w) rows sum → PolyMonomial ρ n w.value power → IsShifted (raised ρ β) power moved
+          → PolyDifference ρ moved power difference → r.coeffs ≡ sum.coeffs → PolySum ρ sum.value power r.value → PolyDifference ρ sum.left difference r.left → Next ρ v β fs n rows ls w r
       next_is w sum r power moved difference b p s q h j k = record {
         next_consts = λ i. ap (λ (z : List K). coefficient (map v z) i) h ∙ b.coeffs i;
         next_value = P.trans j (P.add_cong b.value mono);
-        next_left = P.trans k (P.add_cong b.left (P.neg_cong (P.trans q (P.trans (P.add_cong s (P.rfl {x = ⊖ (map m power)})) (delta_cong (above (shifted f) β) (map m power) (monomial (shifted f) β n (m w.value)) mono)))));
+        next_left = P.trans k (P.add_cong b.left (P.neg_cong (P.trans q (P.trans (P.add_cong s (P.rfl {x = ⊖ (map ρ.of power)})) (delta_cong (above (shifted ρ.formal) (ρ.of β)) (map ρ.of power) (monomial (shifted ρ.formal) (ρ.of β) n (ρ.of w.value)) mono)))));
       }
         where
-          mono : map m power ≋ monomial (shifted f) β n (m w.value)
-          mono = subst (λ (z : List (Element f)). map m power ≋ z) (mono_any O β n (m w.value)) p
+          mono : map ρ.of power ≋ monomial (shifted ρ.formal) (ρ.of β) n (ρ.of w.value)
+          mono = subst (λ (z : List (Element ρ.formal)). map ρ.of power ≋ z) (mono_any O (ρ.of β) n (ρ.of w.value)) p
 
-      pub state_lowered : (inner : List (Solution K E)) (new : List (Partial K E)) → State f m v β fs (n + 1) rows → Sides f m v β fs n rows ls → AllSolve f m v ls inner → IsComplete f m v ls inner → Pairwise (Next f m v β fs n rows ls) inner new → State f m v β fs n new
+      pub state_lowered : (inner : List (Solution K E)) (new : List (Partial K E)) → State ρ v β fs (n + 1) rows → Sides ρ v β fs n rows ls → AllSolve ρ v ls inner → IsComplete ρ v ls inner → Pairwise (Next ρ v β fs n rows ls) inner new → State ρ v β fs n new
       state_lowered inner new st p sound all next =
-          state_next (shifted f) (above (shifted f) β) (differences (shifted f)) (differences (above (shifted f) β)) (map m) fs (partial_consts f m v) (partial_value f m v) (partial_left f m v)
-          (Below R (suc n)) (Below R n) (power_slice (shifted f) β n) rows m ls (consts_of f m v) (value_of f m v) inner new
-          (subst (λ (k : ℕ). State f m v β fs k rows) (one_up n) st) p sound all next
+          state_next (shifted ρ.formal) (above (shifted ρ.formal) (ρ.of β)) (differences (shifted ρ.formal)) (differences (above (shifted ρ.formal) (ρ.of β))) (map ρ.of) fs (partial_consts ρ v) (partial_value ρ v) (partial_left ρ v)
+          (Below R (suc n)) (Below R n) (power_slice (shifted ρ.formal) (ρ.of β) n) rows ρ.of ls (consts_of ρ v) (value_of ρ v) inner new
+          (subst (λ (k : ℕ). State ρ v β fs k rows) (one_up n) st) p sound all next
         where
           one_up : (n : ℕ) → n + 1 ≡ suc n
           one_up n = omega arith

@@ -1,8 +1,6 @@
 ghost use Rattle.std.specs.Prelude.{◌≡◌, ℕ, IfOk, IfErr, [], ◌∷◌};
 ghost use Rattle.sg_num.specs.Stopped.{KeepsWideStep};
-ghost use Rattle.sg_tower_theory.proofs.Formal.{shifted};
-ghost use Rattle.sg_tower.specs.Elements.{Same, IsCopy};
-ghost use Rattle.sg_sums.specs.Polynomials.{at_place, PolySum, PolyDifference, PolyMultiple, PolyBehind, PolyMonomial, PolyProduct, IsOwn};
+ghost use Rattle.sg_sums.specs.Polynomials.{IsPlace, PolySum, PolyDifference, PolyMultiple, PolyScaled, PolyBehind, PolyMonomial, PolyProduct, IsOwn};
 
 use sg_num::{Field, Row, Stop};
 use sg_tower::Tower;
@@ -15,7 +13,7 @@ pub(crate) fn coefficient<T: Tower>(
     p: &Row<T::Elem>,
     i: usize,
 ) -> Result<T::Elem, Stop>
-    ensures value { IfOk result (λ r. Same (T.formal T.K.vars T.K.val below.now) (T.meaning T.K.vars T.K.val below.now r) (at_place (T.formal T.K.vars T.K.val below.now) (T.meaning T.K.vars T.K.val below.now) p.now i)) }
+    ensures value { IfOk result (IsPlace (T.reading T.K.vars T.K.val below.now) p.now i) }
     ensures wide { IfErr result KeepsWideStep }
 {
     if i < p.len() {
@@ -34,7 +32,7 @@ pub(crate) fn added<T: Tower>(
     x: &Row<T::Elem>,
     y: &Row<T::Elem>,
 ) -> Result<Row<T::Elem>, Stop>
-    ensures value { IfOk result (PolySum (T.formal T.K.vars T.K.val below.now) (T.meaning T.K.vars T.K.val below.now) x.now y.now) }
+    ensures value { IfOk result (PolySum (T.reading T.K.vars T.K.val below.now) x.now y.now) }
     ensures wide { IfErr result KeepsWideStep }
 {
     let mut r = Row::new(alloc);
@@ -53,7 +51,7 @@ pub(crate) fn subtracted<T: Tower>(
     x: &Row<T::Elem>,
     y: &Row<T::Elem>,
 ) -> Result<Row<T::Elem>, Stop>
-    ensures value { IfOk result (PolyDifference (T.formal T.K.vars T.K.val below.now) (T.meaning T.K.vars T.K.val below.now) x.now y.now) }
+    ensures value { IfOk result (PolyDifference (T.reading T.K.vars T.K.val below.now) x.now y.now) }
     ensures wide { IfErr result KeepsWideStep }
 {
     let mut r = Row::new(alloc);
@@ -72,7 +70,7 @@ pub(crate) fn times<T: Tower>(
     e: &T::Elem,
     x: &Row<T::Elem>,
 ) -> Result<Row<T::Elem>, Stop>
-    ensures value { IfOk result (PolyMultiple (T.formal T.K.vars T.K.val below.now) (T.meaning T.K.vars T.K.val below.now) (T.meaning T.K.vars T.K.val below.now e.now) x.now) }
+    ensures value { IfOk result (PolyMultiple (T.reading T.K.vars T.K.val below.now) ((T.reading T.K.vars T.K.val below.now).of e.now) x.now) }
     ensures wide { IfErr result KeepsWideStep }
 {
     let mut r = Row::new(alloc);
@@ -89,7 +87,7 @@ pub(crate) fn scaled<T: Tower>(
     c: &T::K,
     x: &Row<T::Elem>,
 ) -> Result<Row<T::Elem>, Stop>
-    ensures value { IfOk result (PolyMultiple (T.formal T.K.vars T.K.val below.now) (T.meaning T.K.vars T.K.val below.now) ((shifted (T.formal T.K.vars T.K.val below.now)).κ.on (T.K.val c.now)) x.now) }
+    ensures value { IfOk result (PolyScaled (T.reading T.K.vars T.K.val below.now) (T.K.val c.now) x.now) }
     ensures wide { IfErr result KeepsWideStep }
 {
     let mut r = Row::new(alloc);
@@ -116,7 +114,7 @@ pub(crate) fn behind<T: Tower>(
     a: T::Elem,
     x: &Row<T::Elem>,
 ) -> Result<Row<T::Elem>, Stop>
-    ensures value { IfOk result (PolyBehind (T.formal T.K.vars T.K.val below.now) (T.meaning T.K.vars T.K.val below.now) a x.now) }
+    ensures value { IfOk result (PolyBehind (T.reading T.K.vars T.K.val below.now) a x.now) }
     ensures wide { IfErr result KeepsWideStep }
 {
     let mut r = single(alloc, a)?;
@@ -133,7 +131,7 @@ pub(crate) fn monomial<T: Tower>(
     n: usize,
     a: &T::Elem,
 ) -> Result<Row<T::Elem>, Stop>
-    ensures value { IfOk result (PolyMonomial (T.formal T.K.vars T.K.val below.now) (T.meaning T.K.vars T.K.val below.now) n a.now) }
+    ensures value { IfOk result (PolyMonomial (T.reading T.K.vars T.K.val below.now) n a.now) }
     ensures wide { IfErr result KeepsWideStep }
 {
     let lead = below.copy(alloc, a)?;
@@ -152,7 +150,7 @@ pub(crate) fn product<T: Tower>(
     x: &Row<T::Elem>,
     y: &Row<T::Elem>,
 ) -> Result<Row<T::Elem>, Stop>
-    ensures value { IfOk result (PolyProduct (T.formal T.K.vars T.K.val below.now) (T.meaning T.K.vars T.K.val below.now) x.now y.now) }
+    ensures value { IfOk result (PolyProduct (T.reading T.K.vars T.K.val below.now) x.now y.now) }
     ensures wide { IfErr result KeepsWideStep }
 {
     let mut r = Row::new(alloc);
@@ -167,7 +165,7 @@ pub(crate) fn product<T: Tower>(
 
 // The sum t itself.
 pub(crate) fn own<T: Tower>(alloc: Global, below: &T) -> Result<Row<T::Elem>, Stop>
-    ensures value { IfOk result (IsOwn (T.formal T.K.vars T.K.val below.now) (T.meaning T.K.vars T.K.val below.now)) }
+    ensures value { IfOk result (IsOwn (T.reading T.K.vars T.K.val below.now)) }
     ensures wide { IfErr result KeepsWideStep }
 {
     let zero = below.zero(alloc)?;

@@ -7,8 +7,8 @@ ghost use Rattle.sg_algebra.proofs.Place.{Pairwise};
 ghost use Rattle.sg_num.specs.Stopped.{KeepsWideStep};
 ghost use Rattle.sg_tower_theory.proofs.Formal.{shifted, elements, one_more};
 ghost use Rattle.sg_tower_theory.proofs.Difference.{Solves, Spanned};
-ghost use Rattle.sg_tower.specs.Elements.{Same, AllSolve, IsComplete, IsShifted};
-ghost use Rattle.sg_sums.specs.Polynomials.{at_place, IsExtended, IsCombined, State, Sides, Next, StartRows, IsFinished};
+ghost use Rattle.sg_tower.specs.Elements.{raised, AllSolve, IsComplete, IsShifted};
+ghost use Rattle.sg_sums.specs.Polynomials.{IsPlace, ConstantsPlus, IsExtended, IsCombined, State, Sides, Next, StartRows, IsFinished};
 
 use crate::partial::Partial;
 use crate::poly1::Poly1;
@@ -25,7 +25,7 @@ pub(crate) fn shifted_poly<T: Tower>(
     beta: &T::Elem,
     x: &Row<T::Elem>,
 ) -> Result<Row<T::Elem>, Stop>
-    ensures value { IfOk result (IsShifted (one_more (T.formal T.K.vars T.K.val below.now) (T.meaning T.K.vars T.K.val below.now beta.now)) (map (T.meaning T.K.vars T.K.val below.now)) x.now) }
+    ensures value { IfOk result (IsShifted (raised (T.reading T.K.vars T.K.val below.now) beta.now) x.now) }
     ensures wide { IfErr result KeepsWideStep }
 {
     let mut r = Row::new(alloc);
@@ -54,7 +54,7 @@ fn constant<F: Field>(alloc: Global, cs: &Row<F>, i: usize) -> Result<F, Stop>
 
 // x + c y.
 fn plus_constants<F: Field>(alloc: Global, x: &Row<F>, c: &F, y: &Row<F>) -> Result<Row<F>, Stop>
-    ensures value { IfOk result (λ r. (i : ℕ) → coefficient_at (map F.val r) i ≡ coefficient_at (map F.val x.now) i +ᵛ F.val c.now *ᵛ coefficient_at (map F.val y.now) i) }
+    ensures value { IfOk result (ConstantsPlus F.val x.now (F.val c.now) y.now) }
     ensures wide { IfErr result KeepsWideStep }
 {
     let mut r = Row::new(alloc);
@@ -101,7 +101,7 @@ fn extended<T: Tower>(
     c: &T::K,
     row: &Partial<T::K, T::Elem>,
 ) -> Result<Partial<T::K, T::Elem>, Stop>
-    ensures value { IfOk result (IsExtended (T.formal T.K.vars T.K.val below.now) (T.meaning T.K.vars T.K.val below.now) T.K.val (elements (T.formal T.K.vars T.K.val below.now)).O acc.now (T.K.val c.now) row.now) }
+    ensures value { IfOk result (IsExtended (T.reading T.K.vars T.K.val below.now) T.K.val acc.now (T.K.val c.now) row.now) }
     ensures wide { IfErr result KeepsWideStep }
 {
     let coeffs = plus_constants(alloc, &acc.coeffs, c, &row.coeffs)?;
@@ -124,7 +124,7 @@ fn combined<T: Tower>(
     cs: &Row<T::K>,
     rows: &Row<Partial<T::K, T::Elem>>,
 ) -> Result<Partial<T::K, T::Elem>, Stop>
-    ensures value { IfOk result (IsCombined (T.formal T.K.vars T.K.val below.now) (T.meaning T.K.vars T.K.val below.now) T.K.val (T.meaning T.K.vars T.K.val below.now beta.now) (coefficient_at (map T.K.val cs.now)) rows.now) }
+    ensures value { IfOk result (IsCombined (T.reading T.K.vars T.K.val below.now) T.K.val beta.now (coefficient_at (map T.K.val cs.now)) rows.now) }
     ensures wide { IfErr result KeepsWideStep }
 {
     let mut sum = Partial {
@@ -146,7 +146,7 @@ pub(crate) fn start<T: Tower>(
     beta: &T::Elem,
     fs: &Row<Poly1<T::Elem>>,
 ) -> Result<Row<Partial<T::K, T::Elem>>, Stop>
-    ensures value { IfOk result (StartRows (T.formal T.K.vars T.K.val below.now) (T.meaning T.K.vars T.K.val below.now) T.K.val (T.meaning T.K.vars T.K.val below.now beta.now) fs.now) }
+    ensures value { IfOk result (StartRows (T.reading T.K.vars T.K.val below.now) T.K.val beta.now fs.now) }
     ensures wide { IfErr result KeepsWideStep }
 {
     let mut rows = Row::new(alloc);
@@ -172,7 +172,7 @@ fn sides<T: Tower>(
     n: usize,
     rows: &Row<Partial<T::K, T::Elem>>,
 ) -> Result<Row<T::Elem>, Stop>
-    ensures value { IfOk result (Sides (T.formal T.K.vars T.K.val below.now) (T.meaning T.K.vars T.K.val below.now) T.K.val (T.meaning T.K.vars T.K.val below.now beta.now) fs.now n rows.now) }
+    ensures value { IfOk result (Sides (T.reading T.K.vars T.K.val below.now) T.K.val beta.now fs.now n rows.now) }
     ensures wide { IfErr result KeepsWideStep }
 {
     let mut ls = Row::new(alloc);
@@ -194,7 +194,7 @@ fn next<T: Tower>(
     ls: &Row<T::Elem>,
     v: &Solution<T::K, T::Elem>,
 ) -> Result<Partial<T::K, T::Elem>, Stop>
-    ensures value { IfOk result (Next (T.formal T.K.vars T.K.val below.now) (T.meaning T.K.vars T.K.val below.now) T.K.val (T.meaning T.K.vars T.K.val below.now beta.now) fs.now n rows.now ls.now v.now) }
+    ensures value { IfOk result (Next (T.reading T.K.vars T.K.val below.now) T.K.val beta.now fs.now n rows.now ls.now v.now) }
     ensures wide { IfErr result KeepsWideStep }
 {
     let sum = combined(alloc, below, beta, &v.coeffs, rows)?;
@@ -221,7 +221,7 @@ fn all_next<T: Tower>(
     ls: &Row<T::Elem>,
     inner: &Row<Solution<T::K, T::Elem>>,
 ) -> Result<Row<Partial<T::K, T::Elem>>, Stop>
-    ensures value { IfOk result (λ new. Pairwise (Next (T.formal T.K.vars T.K.val below.now) (T.meaning T.K.vars T.K.val below.now) T.K.val (T.meaning T.K.vars T.K.val below.now beta.now) fs.now n rows.now ls.now) inner.now new) }
+    ensures value { IfOk result (λ new. Pairwise (Next (T.reading T.K.vars T.K.val below.now) T.K.val beta.now fs.now n rows.now ls.now) inner.now new) }
     ensures wide { IfErr result KeepsWideStep }
 {
     let mut new = Row::new(alloc);
@@ -240,8 +240,8 @@ pub(crate) fn lowered<T: Tower>(
     n: usize,
     rows: &Row<Partial<T::K, T::Elem>>,
 ) -> Result<Row<Partial<T::K, T::Elem>>, Stop>
-    requires { State (T.formal T.K.vars T.K.val below.now) (T.meaning T.K.vars T.K.val below.now) T.K.val (T.meaning T.K.vars T.K.val below.now beta.now) fs.now (n + 1) rows.now }
-    ensures value { IfOk result (State (T.formal T.K.vars T.K.val below.now) (T.meaning T.K.vars T.K.val below.now) T.K.val (T.meaning T.K.vars T.K.val below.now beta.now) fs.now n) }
+    requires { State (T.reading T.K.vars T.K.val below.now) T.K.val beta.now fs.now (n + 1) rows.now }
+    ensures value { IfOk result (State (T.reading T.K.vars T.K.val below.now) T.K.val beta.now fs.now n) }
     ensures wide { IfErr result KeepsWideStep }
 {
     let ls = sides(alloc, below, beta, fs, n, rows)?;
@@ -258,10 +258,8 @@ pub(crate) fn finished<K: Drop, E: Drop>(
     ensures value { IfOk result (Pairwise IsFinished rows) }
     ensures wide { IfErr result KeepsWideStep }
 {
-    let mut rest = rows;
     let mut answer = Row::new(alloc);
-    for _ in 0..rest.len() {
-        let row = rest.remove(0);
+    for row in rows.into_vec() {
         answer.push(Solution {
             coeffs: row.coeffs,
             value: Poly1::of(row.value),

@@ -2,10 +2,8 @@ ghost use Rattle.std.specs.Prelude.{◌≡◌, ℕ, ◌≤◌, ◌<◌, IfOk, If
 ghost use Rattle.sg_algebra.specs.Coefficients.{Each};
 ghost use Rattle.sg_algebra.proofs.Value.{zero_value};
 ghost use Rattle.sg_num.specs.Stopped.{KeepsWideStep};
-ghost use Rattle.sg_tower_theory.proofs.Degrees.{IsNew};
-ghost use Rattle.sg_tower_theory.proofs.Formal.{shifted, elements, one_more};
-ghost use Rattle.sg_tower.specs.Elements.{Same, IsZero, AllSolve, IsComplete};
-ghost use Rattle.sg_sums.specs.Polynomials.{at_place, State};
+ghost use Rattle.sg_tower.specs.Elements.{IsNewSum};
+ghost use Rattle.sg_sums.specs.Polynomials.{ZeroFrom};
 
 use crate::partial::Partial;
 use crate::poly1::Poly1;
@@ -23,15 +21,15 @@ use std::alloc::Global;
 pub struct SumExt<T: Tower> {
     below: T,
     beta: T::Elem,
-    pub ghost few: { (T.formal T.K.vars T.K.val below).sums < 64 },
-    pub ghost is_new: { IsNew (shifted (T.formal T.K.vars T.K.val below)) (T.meaning T.K.vars T.K.val below beta) },
+    pub ghost few: { (T.reading T.K.vars T.K.val below).formal.sums < 64 },
+    pub ghost is_new: { IsNewSum (T.reading T.K.vars T.K.val below) beta },
 }
 
 impl<T: Tower> SumExt<T> {
     /// The tower with one more sum, whose difference is no difference below.
     pub fn new(below: T, beta: T::Elem) -> SumExt<T>
-        requires few { (T.formal T.K.vars T.K.val below).sums < 64 }
-        requires new { IsNew (shifted (T.formal T.K.vars T.K.val below)) (T.meaning T.K.vars T.K.val below beta) }
+        requires few { (T.reading T.K.vars T.K.val below).formal.sums < 64 }
+        requires new { IsNewSum (T.reading T.K.vars T.K.val below) beta }
         ensures below { result.below ≡ below }
         ensures beta { result.beta ≡ beta }
     {
@@ -61,7 +59,7 @@ fn longest<E: Drop>(fs: &Row<Poly1<E>>) -> usize
 
 // Whether all coefficients from `n` on are 0.
 fn zero_from<T: Tower>(below: &T, p: &Row<T::Elem>, n: usize) -> bool
-    ensures { IsTrue result ↔ ((i : ℕ) → n ≤ i → Same (T.formal T.K.vars T.K.val below.now) (at_place (T.formal T.K.vars T.K.val below.now) (T.meaning T.K.vars T.K.val below.now) p.now i) (elements (T.formal T.K.vars T.K.val below.now)).O) }
+    ensures { IsTrue result ↔ ZeroFrom (T.reading T.K.vars T.K.val below.now) p.now n }
 {
     for i in n..p.len() {
         if !below.is_zero(p.get(i)) {
@@ -72,16 +70,13 @@ fn zero_from<T: Tower>(below: &T, p: &Row<T::Elem>, n: usize) -> bool
 }
 
 impl<T: Tower> Tower for SumExt<T> {
-    ghost use Rattle.std.specs.Prelude.{map};
-    ghost use Rattle.sg_tower_theory.proofs.Formal.{one_more};
+    ghost use Rattle.sg_tower.specs.Elements.{raised};
 
     type K = T::K;
 
     type Elem = Poly1<T::Elem>;
 
-    ghost formal = { λ d v s. one_more (T.formal d v s.below) (T.meaning d v s.below s.beta) };
-
-    ghost meaning = { λ d v s p. map (T.meaning d v s.below) p };
+    ghost reading = { λ d v s. raised (T.reading d v s.below) s.beta };
 
     fn products(&self) -> u32 {
         self.below.products()

@@ -1,8 +1,8 @@
 ghost use Rattle.std.specs.Prelude.{◌≡◌, ℕ, ◌+◌, ◌<◌, [], ◌∷◌, ◌++◌, length, map, IfOk, IfErr, OnOk};
 ghost use Rattle.sg_num.specs.Stopped.{KeepsWideStep};
-ghost use Rattle.sg_tower_theory.proofs.Formal.{one_more};
-ghost use Rattle.sg_tower.specs.Terms.{term_of, HasTerms};
-ghost use Rattle.sg_sums.specs.Flattened.{with_power, IsFlatFrom};
+ghost use Rattle.sg_tower.specs.Elements.{raised};
+ghost use Rattle.sg_tower.specs.Terms.{HasTerms};
+ghost use Rattle.sg_sums.specs.Flattened.{with_power, HasTermsFrom};
 
 use sg_num::{Field, Row, Stop};
 use sg_tower::{FlatTerm, Tower};
@@ -15,7 +15,7 @@ pub(crate) fn descending_terms<T: Tower>(
     beta: &T::Elem,
     p: &Row<T::Elem>,
 ) -> Result<Row<FlatTerm<T::K>>, Stop>
-    ensures value { IfOk result (HasTerms (one_more (T.formal T.K.vars T.K.val below.now) (T.meaning T.K.vars T.K.val below.now beta.now)) (map (T.meaning T.K.vars T.K.val below.now)) T.K.val p.now) }
+    ensures value { IfOk result (HasTerms (raised (T.reading T.K.vars T.K.val below.now) beta.now) T.K.val p.now) }
     ensures wide { IfErr result KeepsWideStep }
 {
     let mut terms = Row::new(alloc);
@@ -35,8 +35,8 @@ fn push_terms<T: Tower>(
     terms: &mut Row<FlatTerm<T::K>>,
 ) -> Result<(), Stop>
     requires inside { n < length p.now }
-    requires higher { IsFlatFrom (T.formal T.K.vars T.K.val below.now) (T.meaning T.K.vars T.K.val below.now beta.now) (map (T.meaning T.K.vars T.K.val below.now) p.now) (n + 1) (map (term_of (T.formal T.K.vars T.K.val below.now) (T.meaning T.K.vars T.K.val below.now) T.K.val) terms.old) }
-    ensures ok { OnOk result (IsFlatFrom (T.formal T.K.vars T.K.val below.now) (T.meaning T.K.vars T.K.val below.now beta.now) (map (T.meaning T.K.vars T.K.val below.now) p.now) n (map (term_of (T.formal T.K.vars T.K.val below.now) (T.meaning T.K.vars T.K.val below.now) T.K.val) terms.new)) }
+    requires higher { HasTermsFrom (T.reading T.K.vars T.K.val below.now) T.K.val beta.now p.now (n + 1) terms.old }
+    ensures ok { OnOk result (HasTermsFrom (T.reading T.K.vars T.K.val below.now) T.K.val beta.now p.now n terms.new) }
     ensures wide { IfErr result KeepsWideStep }
 {
     let _ = beta;
@@ -53,9 +53,8 @@ fn append_raised<K: Field>(
 ) -> Result<(), AllocError>
     ensures ok { OnOk result (terms.new ≡ terms.old ++ map (with_power n) inner) }
 {
-    let mut rest = inner;
-    for _ in 0..rest.len() {
-        let mut term = rest.remove(0);
+    for item in inner.into_vec() {
+        let mut term = item;
         term.exps.push(n as i128)?;
         terms.push(term)?;
     }

@@ -2,4 +2,4 @@ use Rattle.sg_sums.specs.Polynomials.{PolyMonomial}
 use Rattle.sg_sums.proofs.polys.monomial.Given as goal
 
 abbrev pub invariant-loop : goal.invariant-loop
-invariant-loop g l = PolyMonomial (g.T.Tower.formal g.T.K.Field.vars g.T.K.Field.val l.below) (g.T.Tower.meaning g.T.K.Field.vars g.T.K.Field.val l.below) l.counter l.a l.r
+invariant-loop g l = PolyMonomial (g.T.Tower.reading g.T.K.Field.vars g.T.K.Field.val l.below) l.counter l.a l.r

@@ -4,4 +4,4 @@ use Rattle.sg_sums.proofs.Building.{Builds}
 use Rattle.sg_sums.proofs.polys.subtracted.Given as goal
 
 abbrev pub invariant-loop-i : goal.invariant-loop-i
-invariant-loop-i g l = Builds (elements (g.T.Tower.formal g.T.K.Field.vars g.T.K.Field.val l.below)) (g.T.Tower.meaning g.T.K.Field.vars g.T.K.Field.val l.below) (λ k. (elements (g.T.Tower.formal g.T.K.Field.vars g.T.K.Field.val l.below)).◌⊞◌ (at_place (g.T.Tower.formal g.T.K.Field.vars g.T.K.Field.val l.below) (g.T.Tower.meaning g.T.K.Field.vars g.T.K.Field.val l.below) l.x k) ((elements (g.T.Tower.formal g.T.K.Field.vars g.T.K.Field.val l.below)).⊟ (at_place (g.T.Tower.formal g.T.K.Field.vars g.T.K.Field.val l.below) (g.T.Tower.meaning g.T.K.Field.vars g.T.K.Field.val l.below) l.y k))) l.i l.r
+invariant-loop-i g l = Builds (elements (g.T.Tower.reading g.T.K.Field.vars g.T.K.Field.val l.below).formal) (g.T.Tower.reading g.T.K.Field.vars g.T.K.Field.val l.below).of (λ k. (elements (g.T.Tower.reading g.T.K.Field.vars g.T.K.Field.val l.below).formal).◌⊞◌ (at_place (g.T.Tower.reading g.T.K.Field.vars g.T.K.Field.val l.below) l.x k) ((elements (g.T.Tower.reading g.T.K.Field.vars g.T.K.Field.val l.below).formal).⊟ (at_place (g.T.Tower.reading g.T.K.Field.vars g.T.K.Field.val l.below) l.y k))) l.i l.r

@@ -4,4 +4,4 @@ use Rattle.sg_sums.specs.Polynomials.{Next}
 use Rattle.sg_sums.proofs.powers.all_next.Given as goal
 
 abbrev pub invariant-loop-i : goal.invariant-loop-i
-invariant-loop-i g l = Pairwise (Next (g.T.Tower.formal g.T.K.Field.vars g.T.K.Field.val l.below) (g.T.Tower.meaning g.T.K.Field.vars g.T.K.Field.val l.below) g.T.K.Field.val (g.T.Tower.meaning g.T.K.Field.vars g.T.K.Field.val l.below l.beta) l.fs l.n l.rows l.ls) (take l.i l.inner) l.new
+invariant-loop-i g l = Pairwise (Next (g.T.Tower.reading g.T.K.Field.vars g.T.K.Field.val l.below) g.T.K.Field.val l.beta l.fs l.n l.rows l.ls) (take l.i l.inner) l.new

@@ -2,5 +2,5 @@ use Rattle.sg_sums.proofs.Extending.{extended_is}
 use Rattle.sg_sums.proofs.powers.extended.Goals as goal
 
 pub returns-clause-value : goal.returns-clause-value
-returns-clause-value g c = extended_is (g.T.Tower.formal g.T.K.Field.vars g.T.K.Field.val c.args.below.now) (g.T.Tower.meaning g.T.K.Field.vars g.T.K.Field.val c.args.below.now) g.T.K.Field.val c.args.acc.now c.args.row.now _ (g.T.K.Field.val c.args.c.now) c.in_ok-more.more c.in_ok-rest.rest
+returns-clause-value g c = extended_is (g.T.Tower.reading g.T.K.Field.vars g.T.K.Field.val c.args.below.now) g.T.K.Field.val c.args.acc.now c.args.row.now _ (g.T.K.Field.val c.args.c.now) c.in_ok-more.more c.in_ok-rest.rest
     c.in_ok-coeffs.ensures.value c.in_ok-more.ensures.value c.in_ok-value.ensures.value c.in_ok-rest.ensures.value c.in_ok-left.ensures.value

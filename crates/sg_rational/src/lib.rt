@@ -9,3 +9,6 @@ mod system;
 
 pub use first::solve_first;
 pub use sg_matrix::Solution;
+
+#[cfg(test)]
+mod tests;

@@ -1,0 +1,202 @@
+use crate::{Solution, solve_first};
+use sg_num::{Field, Rat, Row, Stop};
+use sg_poly::Poly;
+use sg_ratfun::RatFun;
+use std::alloc::Global;
+
+// The coefficients of a numerator and a denominator, the lowest first.
+type Parts<'a> = (&'a [i128], &'a [i128]);
+
+// A basis of the solutions.
+type Basis<F> = Row<Solution<F, RatFun<F>>>;
+
+fn polynomial(alloc: Global, list: &[i128]) -> Result<Poly<Rat>, Stop> {
+    let mut row = Row::new(alloc);
+    for n in list {
+        row.push(Rat::whole(*n))?;
+    }
+    let p = Poly::from_coeffs(alloc, row)?;
+    Ok(p)
+}
+
+// The fraction of these; 0 where the lower one is 0.
+fn over<F: Field>(alloc: Global, p: Poly<F>, q: Poly<F>) -> Result<RatFun<F>, Stop> {
+    if q.is_zero() {
+        return RatFun::zero(alloc);
+    }
+    RatFun::new(alloc, p, q)
+}
+
+fn fraction(alloc: Global, parts: Parts) -> Result<RatFun<Rat>, Stop> {
+    let upper = polynomial(alloc, parts.0)?;
+    let lower = polynomial(alloc, parts.1)?;
+    over(alloc, upper, lower)
+}
+
+// The basis; none where a is 0.
+fn solved<F: Field>(
+    alloc: Global,
+    a: &RatFun<F>,
+    fs: &Row<RatFun<F>>,
+) -> Result<Option<Basis<F>>, Stop> {
+    if a.is_zero() {
+        return Ok(None);
+    }
+    let basis = solve_first(alloc, a, fs)?;
+    Ok(Some(basis))
+}
+
+fn known(alloc: Global, a: Parts, list: &[Parts]) -> Result<Option<Basis<Rat>>, Stop> {
+    let mut fs = Row::new(alloc);
+    for f in list {
+        fs.push(fraction(alloc, *f)?)?;
+    }
+    let a = fraction(alloc, a)?;
+    solved(alloc, &a, &fs)
+}
+
+// Whether there are so many pairs, and whether one has constants that aren't all 0.
+fn has<F: Field>(basis: &Basis<F>, pairs: usize, closed: bool) -> bool {
+    let mut some = false;
+    for s in basis.as_slice() {
+        for c in s.coeffs.as_slice() {
+            some = some || !c.is_zero();
+        }
+    }
+    basis.len() == pairs && some == closed
+}
+
+#[test]
+fn answers_known_spaces(rt: HostRuntime) {
+    let cases: [(Parts, &[Parts], usize, bool); 10] = [
+        ((&[1], &[1]), &[(&[1], &[0, 1, 1])], 2, true),
+        ((&[1], &[1]), &[(&[1], &[0, 1])], 1, false),
+        ((&[1], &[1]), &[(&[1], &[0, 3, 1])], 2, true),
+        ((&[1], &[1]), &[(&[0, 1], &[1]), (&[1], &[0, 1])], 2, true),
+        ((&[2], &[1]), &[(&[1], &[1])], 1, true),
+        ((&[2], &[1]), &[], 0, false),
+        ((&[1], &[1]), &[], 1, false),
+        ((&[0, 1], &[3, 1]), &[(&[], &[1])], 2, true),
+        ((&[0, 1], &[3, 1]), &[], 1, false),
+        ((&[1, 1], &[1]), &[(&[0, 1], &[1])], 1, true),
+    ];
+    for (a, fs, pairs, closed) in cases {
+        let basis = known(rt.alloc(), a, fs);
+        assert!(rt;
+            matches!(&basis, Ok(Some(b)) if has(b, pairs, closed)),
+            "{a:?}"
+        );
+    }
+}
+
+// The space of (1, -1/k) and (0, 1): a pair of c and g is in it exactly where g + c/k is constant.
+fn is_known(alloc: Global, s: &Solution<Rat, RatFun<Rat>>) -> Result<bool, Stop> {
+    if s.coeffs.is_empty() {
+        return Ok(false);
+    }
+    let c = RatFun::from_rat(alloc, *s.coeffs.get(0))?;
+    let part = fraction(alloc, (&[1], &[0, 1]))?.mul(alloc, &c)?;
+    let rest = s.value.add(alloc, &part)?;
+    let constant = rest.constant(alloc)?;
+    Ok(constant.is_some())
+}
+
+#[test]
+fn telescopes_one_over_a_product(rt: HostRuntime) {
+    let basis = known(rt.alloc(), (&[1], &[1]), &[(&[1], &[0, 1, 1])]);
+    assert!(rt; matches!(&basis, Ok(Some(_))));
+    if let Ok(Some(basis)) = basis {
+        for s in basis.as_slice() {
+            assert!(rt; matches!(is_known(rt.alloc(), s), Ok(true)));
+        }
+    }
+}
+
+// u + w n, as a rational function of n.
+fn line(alloc: Global, u: i128, w: i128) -> Result<RatFun<Rat>, Stop> {
+    fraction(alloc, (&[u, w], &[1]))
+}
+
+// The polynomial over the rational functions of n with these coefficients.
+fn lines(alloc: Global, list: &[(i128, i128)]) -> Result<Poly<RatFun<Rat>>, Stop> {
+    let mut row = Row::new(alloc);
+    for (u, w) in list {
+        row.push(line(alloc, *u, *w)?)?;
+    }
+    let p = Poly::from_coeffs(alloc, row)?;
+    Ok(p)
+}
+
+type Lines<'a> = &'a [(i128, i128)];
+
+fn over_lines(alloc: Global, p: Lines, q: Lines) -> Result<RatFun<RatFun<Rat>>, Stop> {
+    let upper = lines(alloc, p)?;
+    let lower = lines(alloc, q)?;
+    over(alloc, upper, lower)
+}
+
+// t(k) = binomial(n, k), t(k+1)/t(k) = (n - k)/(k + 1), and binomial(n+1, k) = t(k) (n+1)/(n+1-k): the sum over k of
+// binomial(n+1, k) - 2 binomial(n, k) telescopes, and nothing else does.
+fn binomial(alloc: Global) -> Result<Option<Basis<RatFun<Rat>>>, Stop> {
+    let mut fs = Row::new(alloc);
+    fs.push(RatFun::one(alloc)?)?;
+    fs.push(over_lines(alloc, &[(1, 1)], &[(1, 1), (-1, 0)])?)?;
+    let a = over_lines(alloc, &[(0, 1), (-1, 0)], &[(1, 0), (1, 0)])?;
+    solved(alloc, &a, &fs)
+}
+
+#[test]
+fn finds_the_step_of_binomials(rt: HostRuntime) {
+    let basis = binomial(rt.alloc());
+    assert!(rt; matches!(&basis, Ok(Some(b)) if has(b, 1, true)));
+}
+
+// 1/((q k + c) ..)
+fn one_over(alloc: Global, factors: &[(i128, i128)]) -> Result<RatFun<Rat>, Stop> {
+    let mut lower = polynomial(alloc, &[1])?;
+    for (q, c) in factors {
+        let factor = polynomial(alloc, &[*c, *q])?;
+        lower = lower.mul(alloc, &factor)?;
+    }
+    let upper = polynomial(alloc, &[1])?;
+    over(alloc, upper, lower)
+}
+
+fn telescoped(alloc: Global, factors: &[(i128, i128)]) -> Result<Option<Basis<Rat>>, Stop> {
+    let mut fs = Row::new(alloc);
+    fs.push(one_over(alloc, factors)?)?;
+    let one: RatFun<Rat> = RatFun::one(alloc)?;
+    solved(alloc, &one, &fs)
+}
+
+// Products of factors q k + c with seeded q and c, and whether 1 over them telescopes: by partial fractions it does exactly where
+// the residues at the roots of each class modulo 1 sum to 0.
+#[test]
+fn telescopes_as_partial_fractions_say(rt: HostRuntime) {
+    let cases: [(&[(i128, i128)], bool); 16] = [
+        (&[(2, 4), (1, 0)], true),
+        (&[(2, 2), (2, 6)], true),
+        (&[(2, 0), (2, 4)], true),
+        (&[(2, 1), (1, 0)], false),
+        (&[(2, 5), (1, 4)], false),
+        (&[(2, 1), (1, 5)], false),
+        (&[(1, 4), (1, 2), (1, 1)], true),
+        (&[(1, 3), (2, 2), (1, 6)], true),
+        (&[(1, 4), (2, 5), (1, 2)], false),
+        (&[(1, 4), (1, 2), (2, 3)], false),
+        (&[(1, 3), (2, 0), (1, 6), (1, 4)], true),
+        (&[(2, 0), (1, 4), (1, 1), (1, 3)], true),
+        (&[(1, 5), (1, 4), (1, 0), (1, 2)], true),
+        (&[(2, 4), (1, 1), (2, 6), (2, 5)], false),
+        (&[(1, 0), (2, 3), (1, 6), (1, 5), (2, 4)], false),
+        (&[(1, 3), (2, 3), (1, 2), (1, 6), (1, 5)], false),
+    ];
+    for (factors, closed) in cases {
+        let basis = telescoped(rt.alloc(), factors);
+        let pairs = if closed { 2 } else { 1 };
+        assert!(rt;
+            matches!(&basis, Ok(Some(b)) if has(b, pairs, closed)),
+            "{factors:?}"
+        );
+    }
+}

@@ -8,10 +8,11 @@
 --   IsFound r xs o          the first part of this role that vanishes, if one does
 --   AreFound xs f           the first pole and the first zero factor
 --   IsLeastAt place r t k    the tree at the place is 0 at a number, and at none before
+--   FindsFirst place t at known new      with the tree at the place, if it is 0 first at this number, what is found is the first
 --   IsRefusal f xs           the fault of all parts
 --   AreWalked xs f r         what a walk over these parts answers
 --   IsWalkFault f xs        the first far pole; or a step that doesn't fit, where there is a heavy part; or want of memory, which is free
-use Rattle.std.specs.Prelude.{ℕ, ℤ, pos, ◌≤ℤ◌, ◌<ℤ◌, List, [], ◌++◌, Option, Some, None, Result, IfOk, IfErr}
+use Rattle.std.specs.Prelude.{ℕ, ℤ, pos, ◌≤ℤ◌, ◌<ℤ◌, List, [], ◌∷◌, ◌++◌, Option, Some, None, Result, IfOk, IfErr}
 use Rattle.sg_spec.specs.Tree.{Tree, numeral, here, param, add, neg, mul, div, power, sum_from, prod_from}
 use Rattle.sg_spec.specs.Parts.{parts, own_part, anywhere, divides, is_body}
 use Rattle.sg_spec.specs.Parts.{Role as Standing}
@@ -104,6 +105,10 @@ IsWalkFault (Stop (Wide w)) xs = IsTooWide w × Among IsHeavyNumbered xs
 pub record IsLeastAt (place : Place) (r : Standing) (t : Tree) (k : ℤ) : Type 0 where
   pub zero : IsRoleAt r k (at_place place r t)
   pub least : (j : ℤ) → j <ℤ k → IsRoleAt r j (at_place place r t) → ⊥
+
+-- what was found before stays; where nothing was, the tree at the place is found, at the number where it is 0
+abbrev pub FindsFirst : Place → Tree → ℤ → Option Found → Option Found → Type 0
+FindsFirst place t at known new = (r : Standing) (front : List Numbered) → IsFound r front known → IsLeastAt place r t at → IsFound r (front ++ at_place place r t ∷ []) new
 
 -- what is left to tell once all parts were gone over
 abbrev pub IsRefusal : LimitFault → List Numbered → Type 0

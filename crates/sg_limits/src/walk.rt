@@ -5,7 +5,7 @@ ghost use Rattle.sg_spec.specs.Faults.{Numbered};
 ghost use Rattle.sg_spec.specs.Limits.{nodes};
 ghost use Rattle.sg_parts.specs.Weights.{IsOwn};
 ghost use Rattle.sg_expr.specs.Tree.{tree_of};
-ghost use Rattle.sg_limits.specs.Walks.{role_of, own_items, items_of, at_place, IsBare, IsFitting, IsWalkable, IsFound, AreWalked, IsLeastAt};
+ghost use Rattle.sg_limits.specs.Walks.{role_of, own_items, items_of, at_place, IsBare, IsFitting, IsWalkable, FindsFirst, AreWalked};
 
 use crate::LimitFault;
 use sg_expr::Expr;
@@ -176,7 +176,7 @@ fn first(
     at: i64,
     e: &Expr,
 ) -> Result<Option<Found>, AllocError>
-    ensures { (r : Standing) (front : List Numbered) → IsFound r front known → IsLeastAt place r (tree_of e.now) at → IfOk result (λ o. IsFound r (front ++ at_place place r (tree_of e.now) ∷ []) o) }
+    ensures { IfOk result (λ o. FindsFirst place (tree_of e.now) at known o) }
 {
     match known {
         Some(f) => Ok(Some(f)),

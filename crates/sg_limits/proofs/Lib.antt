@@ -1,2 +1,13 @@
+pub mod Elementary
+pub mod Wholes
 pub mod Capping
 pub mod Stepping
+pub mod Walking
+pub mod Seeking
+pub mod SoundWorth
+pub mod Spared
+pub mod Sounding
+pub mod Bodies
+pub mod Starts
+pub mod Letters
+pub mod Soundness

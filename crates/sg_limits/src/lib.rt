@@ -1,12 +1,15 @@
-//! The limits on the expressions of a command, each counted exactly as it is defined, and where their sums start.
+//! The limits on the expressions of a command, each counted exactly as it is defined, the parts of them that are 0, and where
+//! their sums start.
 #![tactic(auto)]
 
 mod degrees;
 mod fault;
 mod inspection;
 mod lists;
+mod seek;
 mod sizes;
 mod start;
+mod walk;
 
 pub use fault::LimitFault;
 pub use inspection::{Facts, inspect};

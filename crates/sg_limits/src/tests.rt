@@ -1,147 +1,314 @@
+//! Expressions are written with each operation after its operands: a digit, `k`, `n`, `+`, `*`, `/` and `~` for the opposite; `^` for
+//! a power, whose exponent stands last; `s` and `p` for the sum and the product of what stands last, from the number before it on.
+ghost use Rattle.std.specs.Prelude.{◌≡◌, ◌≤◌, true, [], ◌∷◌, IsTrue, IfOk, IfSome, length, map};
+ghost use Rattle.sg_spec.specs.Printing.{InForm};
+ghost use Rattle.sg_spec.specs.Shape.{is_polynomial_tree, is_divisor_tree};
+ghost use Rattle.sg_expr.specs.Tree.{tree_of};
+ghost use Rattle.sg_limits.specs.Counts.{AreInForm};
+
 use crate::{LimitFault, inspect, start_of};
 use sg_expr::Expr;
-use sg_num::Row;
+use sg_num::{Row, Stop};
 use std::alloc::{AllocError, Global};
 use std::test::Fail;
 
-fn power(alloc: Global, base: Expr, exponent: u128) -> Result<Expr, AllocError> {
-    Ok(Expr::Pow(Box::new(alloc, base)?, exponent))
+/// The expressions of a text, in their order.
+fn read(alloc: Global, text: &[u8]) -> Result<Row<Expr>, AllocError> {
+    let mut stack = Row::new(alloc);
+    for byte in text {
+        let e = made(alloc, &mut stack, *byte)?;
+        stack.push(e)?;
+    }
+    Ok(stack)
 }
 
-fn times(alloc: Global, left: Expr, right: Expr) -> Result<Expr, AllocError> {
-    Ok(Expr::Mul(Box::new(alloc, left)?, Box::new(alloc, right)?))
+fn made(alloc: Global, stack: &mut Row<Expr>, byte: u8) -> Result<Expr, AllocError> {
+    match byte {
+        b'k' => Ok(Expr::Here),
+        b'n' => Ok(Expr::Param),
+        b'~' => opposite(alloc, last(stack)),
+        b'^' => power(alloc, stack),
+        b's' | b'p' => scope(alloc, stack, byte),
+        b'+' | b'*' | b'/' => joined(alloc, stack, byte),
+        digit => Ok(Expr::Num(i128::from(digit.saturating_sub(48)))),
+    }
 }
 
-fn plus(alloc: Global, left: Expr, right: Expr) -> Result<Expr, AllocError> {
-    Ok(Expr::Add(Box::new(alloc, left)?, Box::new(alloc, right)?))
+fn last(stack: &mut Row<Expr>) -> Expr {
+    match stack.pop() {
+        Some(e) => e,
+        None => Expr::Here,
+    }
 }
 
-fn sum(alloc: Global, from: i64, body: Expr) -> Result<Expr, AllocError> {
-    let body = Box::new(alloc, body)?;
-    Ok(Expr::Sum { from, body })
+fn opposite(alloc: Global, e: Expr) -> Result<Expr, AllocError> {
+    Ok(Expr::Neg(Box::new(alloc, e)?))
 }
 
-fn product(alloc: Global, from: i64, body: Expr) -> Result<Expr, AllocError> {
-    let body = Box::new(alloc, body)?;
+fn power(alloc: Global, stack: &mut Row<Expr>) -> Result<Expr, AllocError> {
+    let exponent = number(last(stack));
+    Ok(Expr::Pow(
+        Box::new(alloc, last(stack))?,
+        exponent.unsigned_abs() as u128,
+    ))
+}
+
+fn number(e: Expr) -> i64 {
+    match e {
+        Expr::Num(n) => i64::try_from(n).unwrap_or(0),
+        _ => 0,
+    }
+}
+
+fn scope(alloc: Global, stack: &mut Row<Expr>, byte: u8) -> Result<Expr, AllocError> {
+    let body = Box::new(alloc, last(stack))?;
+    let from = number(last(stack));
+    if byte == b's' {
+        return Ok(Expr::Sum { from, body });
+    }
     Ok(Expr::Prod { from, body })
 }
 
-/// The variable under that many signs, which has one node more.
-fn opposites(alloc: Global, signs: u32) -> Result<Expr, AllocError> {
-    let mut e = Expr::Here;
-    for _i in 0..signs {
-        e = Expr::Neg(Box::new(alloc, e)?);
+fn joined(alloc: Global, stack: &mut Row<Expr>, byte: u8) -> Result<Expr, AllocError> {
+    let right = Box::new(alloc, last(stack))?;
+    let left = Box::new(alloc, last(stack))?;
+    match byte {
+        b'+' => Ok(Expr::Add(left, right)),
+        b'*' => Ok(Expr::Mul(left, right)),
+        _ => Ok(Expr::Div(left, right)),
     }
-    Ok(e)
 }
 
-/// That many different sums.
-fn sums(alloc: Global, count: i64) -> Result<Expr, AllocError> {
-    let mut e = Expr::Num(0);
-    for from in 0..count {
-        e = plus(alloc, e, sum(alloc, from, Expr::Here)?)?;
+/// Whether it is of the form that is read.
+fn is_in_form(e: &Expr, inside: bool) -> bool
+    ensures { IsTrue result → InForm true inside (tree_of e.now) }
+{
+    match e {
+        Expr::Num(n) => *n >= 0,
+        Expr::Here | Expr::Param => true,
+        Expr::Add(x, y) | Expr::Mul(x, y) => is_in_form(x, inside) && is_in_form(y, inside),
+        Expr::Div(x, y) => is_in_form(x, inside) && is_in_form(y, inside) && is_divisor(y),
+        Expr::Neg(x) | Expr::Pow(x, _) => is_in_form(x, inside),
+        Expr::Sum { from, body } => !inside && *from >= 0 && *from <= 9 && is_in_form(body, false),
+        Expr::Prod { from, body } => !inside && *from >= 0 && *from <= 9 && is_in_form(body, true),
     }
-    Ok(e)
 }
 
-/// That many equal sums.
-fn repeats(alloc: Global, count: u32) -> Result<Expr, AllocError> {
-    let mut e = Expr::Num(0);
-    for _i in 0..count {
-        e = plus(alloc, e, sum(alloc, 1, Expr::Here)?)?;
+fn is_divisor(e: &Expr) -> bool
+    ensures { result ≡ is_divisor_tree (tree_of e.now) }
+{
+    match e {
+        Expr::Num(_) | Expr::Here | Expr::Param | Expr::Prod { from: _, body: _ } => true,
+        Expr::Add(x, y) => is_polynomial(x) && is_polynomial(y),
+        Expr::Mul(x, y) => is_divisor(x) && is_divisor(y),
+        Expr::Neg(x) | Expr::Pow(x, _) => is_divisor(x),
+        Expr::Div(_, _) | Expr::Sum { from: _, body: _ } => false,
     }
-    Ok(e)
 }
 
-/// Different products from the first to before the last.
-fn products(alloc: Global, first: i64, last: i64) -> Result<Expr, AllocError> {
-    let mut e = Expr::Num(0);
-    for from in first..last {
-        e = plus(alloc, e, product(alloc, from, Expr::Here)?)?;
+fn is_polynomial(e: &Expr) -> bool
+    ensures { result ≡ is_polynomial_tree (tree_of e.now) }
+{
+    match e {
+        Expr::Num(_) | Expr::Here | Expr::Param => true,
+        Expr::Add(x, y) | Expr::Mul(x, y) => is_polynomial(x) && is_polynomial(y),
+        Expr::Neg(x) | Expr::Pow(x, _) => is_polynomial(x),
+        Expr::Div(_, _) | Expr::Sum { from: _, body: _ } | Expr::Prod { from: _, body: _ } => false,
     }
-    Ok(e)
 }
 
-fn answer(alloc: Global, items: &Row<Expr>) -> Result<String, Fail> {
+fn answer(alloc: Global, items: &Row<Expr>, lower: Option<i64>) -> Result<String, Fail>
+    requires few { length items.now ≤ 16 }
+    requires form { IfSome lower (λ _. AreInForm (map tree_of items.now)) }
+{
+    match inspect(alloc, items, lower) {
+        Ok(facts) => Ok(format!(in alloc;
+            "{} sums, {} products from {}",
+            facts.sums.len(),
+            facts.prods.len(),
+            facts.start
+        )?),
+        Err(LimitFault::Stop(Stop::Memory(want))) => Err(want)?,
+        Err(fault) => Ok(told(alloc, fault)?),
+    }
+}
+
+fn told(alloc: Global, fault: LimitFault) -> Result<String, AllocError> {
+    match fault {
+        LimitFault::FarPole { item, part, depth } => format!(in alloc;
+            "far pole {item} {part:?} {depth}"
+        ),
+        LimitFault::Pole {
+            item,
+            at,
+            part,
+            depth,
+        } => format!(in alloc; "pole {item} at {at} {part:?} {depth}"),
+        LimitFault::ZeroFactor {
+            item,
+            at,
+            part,
+            depth,
+        } => format!(in alloc; "zero factor {item} at {at} {part:?} {depth}"),
+        fault => format!(in alloc; "{fault}"),
+    }
+}
+
+/// What is told of the expressions of a text, of which there are at most 16.
+fn counted(alloc: Global, text: &[u8]) -> Result<String, Fail> {
+    let items = read(alloc, text)?;
     if items.len() > 16 {
         return Ok(format!(in alloc; "too many")?);
     }
-    match inspect(alloc, items, None) {
-        Ok(facts) => Ok(format!(in alloc;
-            "{} sums, {} products",
-            facts.sums.len(),
-            facts.prods.len()
-        )?),
-        Err(LimitFault::Stop(stop)) => Err(stop)?,
-        Err(fault) => Ok(format!(in alloc; "{fault}")?),
-    }
+    answer(alloc, &items, None)
 }
 
-#[test]
-fn each_limit_is_exact(rt: HostRuntime) -> Result<(), Fail> {
-    let alloc = rt.alloc();
-    let k = Expr::Here;
-    let n = Expr::Param;
-    let half = power(alloc, k.copy(alloc)?, 40)?;
-    let apart = times(alloc, half.copy(alloc)?, sum(alloc, 1, half.copy(alloc)?)?)?;
-    for (e, want) in [
-        (opposites(alloc, 1999)?, "0 sums, 0 products"),
-        (opposites(alloc, 2000)?, "expression 2 has too many nodes"),
-        (power(alloc, k.copy(alloc)?, 64)?, "0 sums, 0 products"),
-        (power(alloc, n, 65)?, "a degree of expression 2 is too high"),
-        (
-            sum(alloc, 1, power(alloc, k, 65)?)?,
-            "a degree of expression 2 is too high",
-        ),
-        (
-            times(alloc, half.copy(alloc)?, half)?,
-            "a degree of expression 2 is too high",
-        ),
-        (apart, "1 sums, 0 products"),
-        (
-            power(alloc, sums(alloc, 1)?, 9)?,
-            "a degree of expression 2 is too high",
-        ),
-        (sums(alloc, 8)?, "8 sums, 0 products"),
-        (sums(alloc, 9)?, "there are too many sums"),
-        (repeats(alloc, 9)?, "1 sums, 0 products"),
-        (products(alloc, 0, 4)?, "0 sums, 4 products"),
-        (products(alloc, 0, 5)?, "there are too many products"),
-        (
-            plus(alloc, products(alloc, 0, 5)?, sums(alloc, 9)?)?,
-            "there are too many sums",
-        ),
-    ] {
-        let mut items = Row::new(alloc);
-        items.push(Expr::Num(1))?;
-        items.push(e)?;
-        assert_eq!(rt; answer(alloc, &items)?.as_str(), want);
+/// What is told of the last two expressions of a text, where poles are sought.
+fn sought(alloc: Global, text: &[u8], lower: i64) -> Result<String, Fail> {
+    let mut items = read(alloc, text)?;
+    let second = last(&mut items);
+    let first = last(&mut items);
+    if !is_in_form(&first, false) || !is_in_form(&second, false) {
+        return Ok(format!(in alloc; "not in form")?);
     }
-    Ok(())
+    let both = pair(alloc, first, second)?;
+    answer(alloc, &both, Some(lower))
 }
 
-/// Five expressions of four products each, and then a further product.
-#[test]
-fn products_are_counted_together(rt: HostRuntime) -> Result<(), Fail> {
-    let alloc = rt.alloc();
+fn pair(alloc: Global, first: Expr, second: Expr) -> Result<Row<Expr>, AllocError>
+    ensures { IfOk result (λ items. items ≡ first ∷ second ∷ []) }
+{
     let mut items = Row::new(alloc);
-    for (first, last) in [(0, 4), (4, 8), (8, 12), (12, 16), (16, 20)] {
-        items.push(products(alloc, first, last)?)?;
+    items.push(first)?;
+    items.push(second)?;
+    Ok(items)
+}
+
+/// The variable under that many signs, which has one node more.
+fn signs(alloc: Global, count: u32) -> Result<Vec<u8>, AllocError> {
+    let mut text = Vec::new(alloc);
+    text.push(b'k')?;
+    for _i in 0..count {
+        text.push(b'~')?;
     }
-    assert_eq!(rt; answer(alloc, &items)?.as_str(), "0 sums, 20 products");
-    items.push(products(alloc, 20, 21)?)?;
+    Ok(text)
+}
+
+#[test]
+fn nodes_are_counted(rt: HostRuntime) -> Result<(), Fail> {
+    let least = signs(rt.alloc(), 1999)?;
+    let most = signs(rt.alloc(), 2000)?;
     assert_eq!(rt;
-        answer(alloc, &items)?.as_str(),
-        "there are too many products"
+        counted(rt.alloc(), &least)?.as_str(),
+        "0 sums, 0 products from 0"
+    );
+    assert_eq!(rt;
+        counted(rt.alloc(), &most)?.as_str(),
+        "expression 1 has too many nodes"
     );
     Ok(())
 }
 
 #[test]
+fn each_limit_is_exact(rt: HostRuntime) -> Result<(), Fail> {
+    for (text, want) in [
+        ("k8^8^", "0 sums, 0 products from 0"),
+        ("1n8^8^n*", "a degree of expression 2 is too high"),
+        ("1k8^8^k*s", "a degree of expression 1 is too high"),
+        ("k8^5^k8^5^*", "a degree of expression 1 is too high"),
+        ("k8^5^1k8^5^s*", "1 sums, 0 products from 0"),
+        ("0ks9^", "a degree of expression 1 is too high"),
+        (
+            "0ks1ks+2ks+3ks+4ks+5ks+6ks+7ks+",
+            "8 sums, 0 products from 0",
+        ),
+        (
+            "0ks1ks+2ks+3ks+4ks+5ks+6ks+7ks+8ks+",
+            "there are too many sums",
+        ),
+        (
+            "1ks1ks+1ks+1ks+1ks+1ks+1ks+1ks+1ks+",
+            "1 sums, 0 products from 0",
+        ),
+        ("0kp1kp+2kp+3kp+", "0 sums, 4 products from 0"),
+        ("0kp1kp+2kp+3kp+4kp+", "there are too many products"),
+        (
+            "0kp1kp+2kp+3kp+4kp+0ks+1ks+2ks+3ks+4ks+5ks+6ks+7ks+8ks+",
+            "there are too many sums",
+        ),
+        (
+            "0kp1kp+2kp+3kp+4kp5kp+6kp+7kp+8kp9kp+0np+1np+2np3np+4np+5np+6np7np+8np+9np+",
+            "0 sums, 20 products from 0",
+        ),
+        (
+            "0kp1kp+2kp+3kp+4kp5kp+6kp+7kp+8kp9kp+0np+1np+2np3np+4np+5np+6np7np+8np+9np+0k~p",
+            "there are too many products",
+        ),
+    ] {
+        let told = counted(rt.alloc(), text.as_bytes())?;
+        assert_eq!(rt; told.as_str(), want);
+    }
+    Ok(())
+}
+
+/// 4096 is written 8^4, 2^126 is (4^7)^9. A weight above 2^126 alone stops nothing, only one that doesn't fit 128 bits.
+#[test]
+fn parts_are_found(rt: HostRuntime) -> Result<(), Fail> {
+    for (text, lower, want) in [
+        ("0kp", 1, "zero factor 2 at 0 Here 1"),
+        ("1kk~+/", -3, "pole 2 at -3 Add(Here, Neg(Here)) 0"),
+        (
+            "1nk*k+2n*2+~+/",
+            1,
+            "pole 2 at 2 Add(Add(Mul(Param, Here), Here), Neg(Add(Mul(Num(2), Param), Num(2)))) 0",
+        ),
+        ("1nk~+/", -3, "0 sums, 0 products from -3"),
+        ("1k84^~+/", 1, "far pole 2 Add(Here, Neg(Pow(Num(8), 4))) 0"),
+        (
+            "1k84^~1++/",
+            1,
+            "pole 2 at 4095 Add(Here, Add(Neg(Pow(Num(8), 4)), Num(1))) 0",
+        ),
+        ("1k2~+k7~+*/", 1, "pole 2 at 2 Add(Here, Neg(Num(2))) 0"),
+        (
+            "1k2^9~+/",
+            -5,
+            "pole 2 at -3 Add(Pow(Here, 2), Neg(Num(9))) 0",
+        ),
+        ("1k2~+0^/", 1, "0 sums, 0 products from 1"),
+        ("31k2~+/s", 1, "1 sums, 0 products from 2"),
+        ("21k2~+/s", 3, "pole 2 at 2 Add(Here, Neg(Num(2))) 1"),
+        ("1kk2~+/p", 1, "pole 2 at 2 Add(Here, Neg(Num(2))) 1"),
+        (
+            "1k3~+1k552*3^*~+/+p",
+            1,
+            "far pole 2 Add(Add(Here, Neg(Num(3))), Div(Num(1), Add(Here, Neg(Mul(Num(5), Pow(Mul(Num(5), Num(2)), 3)))))) 1",
+        ),
+        ("1k2~+/1k1~+/", 1, "pole 1 at 2 Add(Here, Neg(Num(2))) 0"),
+        ("0kp1k1~+/", 1, "pole 2 at 1 Add(Here, Neg(Num(1))) 0"),
+        (
+            "1k1~+/1k84^~+/",
+            1,
+            "far pole 2 Add(Here, Neg(Pow(Num(8), 4))) 0",
+        ),
+        (
+            "1k47^9^+/",
+            1,
+            "far pole 2 Add(Here, Pow(Pow(Num(4), 7), 9)) 0",
+        ),
+        ("147^9^k*47^9^~+/", 1, "a step does not fit 128 bits"),
+        ("147^9^k*1+/", 1, "0 sums, 0 products from 1"),
+    ] {
+        let told = sought(rt.alloc(), text.as_bytes(), lower)?;
+        assert_eq!(rt; told.as_str(), want);
+    }
+    Ok(())
+}
+
+#[test]
 fn starts_before_the_last_lower_limit(rt: HostRuntime) -> Result<(), Fail> {
-    let alloc = rt.alloc();
-    let inner = sum(alloc, 7, Expr::Here)?;
-    let e = product(alloc, -3, inner)?;
+    let mut items = read(rt.alloc(), b"37ksp")?;
+    let e = last(&mut items);
     assert_eq!(rt; start_of(&e, 0), 6);
     assert_eq!(rt; start_of(&e, 9), 9);
     assert_eq!(rt; start_of(&Expr::Here, -2), -2);

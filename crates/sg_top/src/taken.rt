@@ -1,5 +1,6 @@
-ghost use Rattle.std.specs.Prelude.{◌≡◌, ◌≤◌, IfOk, Some, Option, length, map, string_bytes};
-ghost use Rattle.sg_spec.specs.Limits.{CountFault};
+ghost use Rattle.std.specs.Prelude.{◌≡◌, ◌≤◌, List, IfOk, Some, None, length, map, string_bytes};
+ghost use Rattle.sg_spec.specs.Tree.{Tree};
+ghost use Rattle.sg_spec.specs.Limits.{CountFault, counted};
 ghost use Rattle.sg_limits.specs.Counts.{IsFault};
 ghost use Rattle.sg_text.specs.Reads.{IsFree};
 ghost use Rattle.sg_words.specs.declared.asked.Command.{Command};
@@ -70,8 +71,8 @@ fn letters(command: Command) -> &'static [u8]
 
 // Which count passes its limit.
 fn count_text(alloc: Global, fault: LimitFault) -> Result<Vec<u8>, AllocError>
-    requires { (o : Option CountFault) × IsFault fault o }
-    ensures { IfOk result (λ t. (o : Option CountFault) → IsFault fault o → (f : CountFault) × (o ≡ Some f) × (t.items ≡ count_line f)) }
+    requires { (es : List Tree) × IsFault fault None es }
+    ensures { IfOk result (λ t. (es : List Tree) → IsFault fault None es → (f : CountFault) × (counted es ≡ Some f) × (t.items ≡ count_line f)) }
 {
     match fault {
         LimitFault::Nodes { item } => item_text(alloc, b"nodes", item as usize),
@@ -79,6 +80,9 @@ fn count_text(alloc: Global, fault: LimitFault) -> Result<Vec<u8>, AllocError>
         LimitFault::Sums => Vec::from_slice(alloc, b"refused sums\n"),
         LimitFault::Products => Vec::from_slice(alloc, b"refused products\n"),
         LimitFault::Stop(Stop::Memory(want)) => Err(want),
-        LimitFault::Stop(Stop::Wide(_)) => unreachable!(),
+        LimitFault::Stop(Stop::Wide(_))
+        | LimitFault::FarPole { .. }
+        | LimitFault::Pole { .. }
+        | LimitFault::ZeroFactor { .. } => unreachable!(),
     }
 }

@@ -1,0 +1,17 @@
+pub mod Apart
+pub mod Pieces
+pub mod Moves
+pub mod Steps
+pub mod Answer
+pub mod Kernel
+pub mod Falling
+pub mod Spanning
+pub mod Bases
+pub mod Settling
+pub mod Places
+pub mod Proper
+pub mod Splitting
+pub mod Conditions
+pub mod Everywhere
+pub mod Images
+pub mod Leading

@@ -1,6 +1,7 @@
 //! First-order equations over rational functions.
 #![tactic(auto)]
 
+mod ansatz;
 mod degree;
 mod denominator;
 mod dispersion;

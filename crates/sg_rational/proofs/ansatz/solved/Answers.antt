@@ -1,6 +1,6 @@
 use Rattle.sg_poly.specs.Polynomials.{polynomial}
 use Rattle.sg_rational.proofs.Answering.{all_long, basis_answered}
-use Rattle.sg_rational.proofs.first.solved.Goals as goal
+use Rattle.sg_rational.proofs.ansatz.solved.Goals as goal
 
 pub solutions-requires-clause-within : goal.solutions-requires-clause-within
 solutions-requires-clause-within g c = all_long g.F.Field.val (polynomial g.F.Field.val c.args.equation.now.a) (polynomial g.F.Field.val c.args.equation.now.b) c.args.sides.now c.in_ok-n.n c.in_ok-basis.basis c.in_ok-basis.ensures.value

@@ -4,7 +4,7 @@ use Rattle.sg_algebra.proofs.Polynomial.{poly}
 use Rattle.sg_first_order.specs.Solutions.{pair}
 use Rattle.sg_first_order.proofs.ValueFractions.{whole}
 use Rattle.sg_first_order.proofs.Bounded.{over_whole}
-use Rattle.sg_rational.proofs.first.solution.Goals as goal
+use Rattle.sg_rational.proofs.ansatz.solution.Goals as goal
 
 pub new-requires : goal.new-requires
 new-requires g c = λ z. c.requires.some (sym c.in_ok-den.ensures.value ∙ z)

@@ -5,7 +5,7 @@ use Rattle.sg_poly.specs.Polynomials.{polynomial}
 use Rattle.sg_ratfun.specs.Fractions.{ratio}
 use Rattle.sg_rational.proofs.Columns.{cleared_more, push_length}
 use Rattle.sg_rational.proofs.Answering.{read_divides}
-use Rattle.sg_rational.proofs.first.sides.Goals as goal
+use Rattle.sg_rational.proofs.ansatz.sides.Goals as goal
 
 pub loop-i-init : goal.loop-i-init
 loop-i-init g c = record { value = rw (c.new-list.ensures) tt; size = ap length c.new-list.ensures }

@@ -4,7 +4,7 @@ use Rattle.sg_algebra.proofs.Tables.{row_read}
 use Rattle.sg_poly.specs.Polynomials.{polynomial}
 use Rattle.sg_first_order.proofs.Basis.{pair_of}
 use Rattle.sg_rational.proofs.Columns.{images_more}
-use Rattle.sg_rational.proofs.first.solutions.Goals as goal
+use Rattle.sg_rational.proofs.ansatz.solutions.Goals as goal
 
 pub loop-i-init : goal.loop-i-init
 loop-i-init g c = rw (c.new-list.ensures) refl

@@ -1,4 +1,4 @@
-use crate::{Part, element_tree, primitive_quotient, rational_tree};
+use crate::rational_tree;
 use sg_expr::Expr;
 use sg_num::{Rat, Row, Stop};
 use sg_poly::Poly;
@@ -56,29 +56,6 @@ fn two_less_one(alloc: Global) -> Result<Expr, AllocError> {
     plus(alloc, first, last)
 }
 
-/// The harmonic number of the variable.
-fn harmonic(alloc: Global) -> Result<Expr, AllocError> {
-    let body = Box::new(alloc, over(alloc, Expr::Num(1), Expr::Here)?)?;
-    Ok(Expr::Sum { from: 1, body })
-}
-
-/// -(m^2-m)/4
-fn less_than_zero(alloc: Global) -> Result<Expr, AllocError> {
-    let square = power(alloc, Expr::Here, 2)?;
-    let last = minus(alloc, Expr::Here)?;
-    let upper = plus(alloc, square, last)?;
-    let t = over(alloc, upper, Expr::Num(4))?;
-    minus(alloc, t)
-}
-
-/// (m^2+m)*H(m)/2
-fn with_harmonic(alloc: Global) -> Result<Expr, AllocError> {
-    let upper = square_and_one(alloc)?;
-    let sum = harmonic(alloc)?;
-    let t = times(alloc, upper, sum)?;
-    over(alloc, t, Expr::Num(2))
-}
-
 fn fractions(alloc: Global, list: &[(i128, i128)]) -> Result<Row<Rat>, Stop> {
     let mut row = Row::new(alloc);
     for i in 0..list.len() {
@@ -131,31 +108,5 @@ fn sign_in_front(rt: HostRuntime) -> Result<(), Fail> {
     let alloc = rt.alloc();
     let want = minus(alloc, over(alloc, Expr::Num(3), two_less_one(alloc)?)?)?;
     assert!(rt; is_tree(alloc, &[(3, 2)], &[(1, 2), (-1, 1)], &want)?);
-    Ok(())
-}
-
-/// A term with a power of the sum and these coefficients over 1, the lowest first.
-fn part(alloc: Global, power: u128, upper: &[(i128, i128)]) -> Result<Part, Stop> {
-    let list = fractions(alloc, upper)?;
-    let quotient = primitive_quotient(alloc, list.as_slice(), &[Rat::whole(1)])?;
-    let mut powers = Row::new(alloc);
-    powers.push(power)?;
-    let exponents = Row::new(alloc);
-    Ok(Part {
-        powers,
-        exponents,
-        quotient,
-    })
-}
-
-/// (m^2+m)*H(m)/2-(m^2-m)/4
-#[test]
-fn over_a_sum(rt: HostRuntime) -> Result<(), Fail> {
-    let alloc = rt.alloc();
-    let first = part(alloc, 1, &[(0, 1), (1, 2), (1, 2)])?;
-    let second = part(alloc, 0, &[(0, 1), (1, 4), (-1, 4)])?;
-    let t = element_tree(alloc, &[], &[harmonic(alloc)?], &[first, second])?;
-    let want = plus(alloc, with_harmonic(alloc)?, less_than_zero(alloc)?)?;
-    assert!(rt; t.same(&want));
     Ok(())
 }

@@ -1,0 +1,6 @@
+//! Stand-in.
+#![tactic(auto)]
+
+mod closed;
+
+pub use closed::rational_closed;

@@ -1,6 +1,6 @@
 -- Where no part is 0, an expression has a value from the lower limit on, as a fraction.
 --   has_number     what is read without a parameter
-use Rattle.std.proofs.Common.{List, [], ◌∷◌, ℤ, pos, ◌≤ℤ◌, false}
+use Rattle.std.proofs.Common.{[], ◌∷◌, ℤ, pos, ◌≤ℤ◌, false}
 use Rattle.sg_algebra.proofs.Rational.{whole_value}
 use Rattle.sg_spec.specs.Tree.{Tree}
 use Rattle.sg_spec.specs.Printing.{InForm}

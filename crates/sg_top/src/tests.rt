@@ -34,11 +34,7 @@ fn answers_the_known_rows(rt: HostRuntime) -> Result<(), Fail> {
             "closed 999999999999999999*m from 1\n",
             Status::Done,
         ),
-        (
-            "sum 1 1/(k*(k+1))",
-            "closed m/(m+1) from 1\n",
-            Status::Done,
-        ),
+        ("sum 1 1/(k*(k+1))", "closed m/(m+1) from 1\n", Status::Done),
         (
             "sum 3 1/((k-1)*(k-2))",
             "closed (m-2)/(m-1) from 3\n",

@@ -35,16 +35,22 @@ returns-in_ok-text-in-Pole c = λ a es cause.
     let fits : FitsSigned w64 c.in-Pole.at = search rules in
     let known = rw c.in-Pole.is at cause in
     rw c.refused-in-Pole.ensures
-    (inl (refl, pole-refusal a es c.in-Pole.item c.in-Pole.depth c.in-Pole.at c.in-Pole.part c.in_ok-text-in-Pole.text.items known.1.1
-    (simp to_z-of_z at c.in_ok-text-in-Pole.ensures)))
+    (inl (
+      refl,
+      pole-refusal a es c.in-Pole.item c.in-Pole.depth c.in-Pole.at c.in-Pole.part c.in_ok-text-in-Pole.text.items known.1.1
+          (simp to_z-of_z at c.in_ok-text-in-Pole.ensures),
+    ))
 
 pub returns-in_ok-text-in-ZeroFactor : goal.returns-in_ok-text-in-ZeroFactor
 returns-in_ok-text-in-ZeroFactor c = λ a es cause.
     let fits : FitsSigned w64 c.in-ZeroFactor.at = search rules in
     let known = rw c.in-ZeroFactor.is at cause in
     rw c.refused-in-ZeroFactor.ensures
-    (inl (refl, factor-refusal a es c.in-ZeroFactor.item c.in-ZeroFactor.depth c.in-ZeroFactor.at c.in-ZeroFactor.part c.in_ok-text-in-ZeroFactor.text.items known.1.1
-    (simp to_z-of_z at c.in_ok-text-in-ZeroFactor.ensures)))
+    (inl (
+      refl,
+      factor-refusal a es c.in-ZeroFactor.item c.in-ZeroFactor.depth c.in-ZeroFactor.at c.in-ZeroFactor.part c.in_ok-text-in-ZeroFactor.text.items known.1.1
+          (simp to_z-of_z at c.in_ok-text-in-ZeroFactor.ensures),
+    ))
 
 pub returns-in_ok-reply-in-Stop : goal.returns-in_ok-reply-in-Stop
 returns-in_ok-reply-in-Stop c = λ a es cause.

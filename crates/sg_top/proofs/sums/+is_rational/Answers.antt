@@ -10,7 +10,7 @@ returns-else-is_rational t c =
     let left = left_rational (tree_of c.in-Add.a.value) (tree_of c.in-Add.b.value) in
     let first : IsRational (tree_of c.args.e.now) → IsRational (tree_of c.in-Add.a.value) =
     elim c.in-Add.is [
-      inl e ↦ λ h. left (rw e at h)
-    | inr more ↦ elim more [ inl e ↦ λ h. left (rw e at h) | inr e ↦ λ h. left (rw e at h) ]
+      | inl e ↦ λ h. left (rw e at h)
+      | inr more ↦ elim more [ inl e ↦ λ h. left (rw e at h) | inr e ↦ λ h. left (rw e at h) ]
     ] in
     (λ k. absurd (not_true (sym c.if-is_rational.false ∙ k)), λ h. same.1 (first h))

@@ -6,13 +6,15 @@
 --   refusal_words   why a text isn't read
 --   count_line      the count that passes its limit
 --   letters_at      the letters of a scope by its depth: in a body the variable is j, and in one inside of it i, in turn
---   part_text       a part of an expression, in the letters of its scope
+--   scope_text      a tree in the letters of a scope at a depth
+--   part_text       a part of an expression in those of its scope
 --   pole_line       the part of a divisor or of a product's body that is 0, or may be too far out, and where it is 0
 use Rattle.std.specs.Prelude.{ℕ, ◌==◌, ◌%◌, List, [], ◌∷◌, ◌++◌, ℤ, codes, cond, decimal}
 use Rattle.std.specs.Fmt.{signed_decimal}
 use Rattle.sg_spec.specs.Reading.{Kind, numeral_fault, exponent_fault, unbound, form, Refusal, too_long, too_deep, no_text, faulty}
 use Rattle.sg_spec.specs.Limits.{CountFault, too_many_nodes, too_steep, too_many_sums, too_many_products}
 use Rattle.sg_spec.specs.Parts.{Part}
+use Rattle.sg_spec.specs.Tree.{Tree}
 use Rattle.sg_spec.specs.Faults.{PoleFault, far_pole, pole, zero_factor}
 use Rattle.sg_num.specs.declared.step.Op.{Op}
 use Rattle.sg_num.specs.declared.step.Op.TheVariants.{Add, Sub, Mul, Div}
@@ -61,8 +63,11 @@ abbrev pub letters_at : ℕ → List ℕ → List ℕ
 letters_at d [] = []
 letters_at d (v ∷ more) = cond (d == 0) v (cond (d % 2 == 1) 106 105) ∷ more
 
+abbrev pub scope_text : List ℕ → ℕ → Tree → List ℕ
+scope_text letters d t = printed (letters_at d letters) t
+
 abbrev pub part_text : List ℕ → Part → List ℕ
-part_text letters p = printed (letters_at p.depth letters) p.tree
+part_text letters p = scope_text letters p.depth p.tree
 
 abbrev pub pole_line : List ℕ → PoleFault → List ℕ
 pole_line letters (far_pole x) = item_line (codes "far pole of " ++ part_text letters x.part) x.item

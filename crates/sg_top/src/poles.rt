@@ -4,9 +4,8 @@ ghost use Rattle.sg_algebra.specs.Coefficients.{Each};
 ghost use Rattle.sg_expr.specs.Tree.{tree_of};
 ghost use Rattle.sg_spec.specs.Printing.{InForm};
 ghost use Rattle.sg_spec.specs.Tree.{Tree};
-ghost use Rattle.sg_text.specs.PrintedText.{printed};
 ghost use Rattle.sg_text.specs.Reads.{IsFree};
-ghost use Rattle.sg_top.specs.Lines.{letters_at, item_line};
+ghost use Rattle.sg_top.specs.Lines.{letters_at, scope_text, item_line};
 ghost use Rattle.sg_top.specs.Taking.{IsPoleCause, IsPoleReply};
 
 use crate::lines::item_text;
@@ -60,7 +59,7 @@ pub fn pole_reply(alloc: Global, fault: LimitFault) -> Result<Reply, AllocError>
 // The line of a far pole.
 fn far_text(alloc: Global, part: &Expr, depth: u32, item: u32) -> Result<Vec<u8>, AllocError>
     requires { InForm false false (tree_of part.now) }
-    ensures { IfOk result (λ t. t.items ≡ item_line (codes "far pole of " ++ printed (letters_at depth (codes "k")) (tree_of part.now)) item) }
+    ensures { IfOk result (λ t. t.items ≡ item_line (codes "far pole of " ++ scope_text (codes "k") depth (tree_of part.now)) item) }
 {
     let text = print(alloc, part, letters_at(depth))?;
     let mut what = Vec::from_slice(alloc, b"far pole of ")?;
@@ -78,7 +77,7 @@ fn zero_text(
     item: u32,
 ) -> Result<Vec<u8>, AllocError>
     requires { InForm false false (tree_of part.now) }
-    ensures { IfOk result (λ t. t.items ≡ item_line (kind.now ++ signed_decimal at ++ codes " of " ++ printed (letters_at depth (codes "k")) (tree_of part.now)) item) }
+    ensures { IfOk result (λ t. t.items ≡ item_line (kind.now ++ signed_decimal at ++ codes " of " ++ scope_text (codes "k") depth (tree_of part.now)) item) }
 {
     let mut buffer = Buffer::new();
     let text = print(alloc, part, letters_at(depth))?;

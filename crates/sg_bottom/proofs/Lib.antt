@@ -1,0 +1,3 @@
+mod Inverses
+mod Shifting
+mod Solving

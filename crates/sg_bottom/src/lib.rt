@@ -1,0 +1,6 @@
+//! The tower without products and sums: the rational functions of k.
+#![tactic(auto)]
+
+mod bottom;
+
+pub use bottom::Bottom;

@@ -1,0 +1,10 @@
+pub mod Reaching
+pub mod Carrying
+pub mod Taken
+pub mod Numerators
+pub mod Plans
+pub mod Settled
+pub mod Summed
+pub mod Conditioned
+pub mod Functions
+pub mod Solved

@@ -1,0 +1,7 @@
+use Rattle.std.proofs.Common.{◌≡◌, map, take}
+use Rattle.sg_algebra.proofs.Polynomial.{constant, ◌*ᵖ◌}
+use Rattle.sg_constant.specs.Shares.{polys}
+use Rattle.sg_constant.proofs.shares.multiples.Given as goal
+
+abbrev pub invariant-loop-i : goal.invariant-loop-i
+invariant-loop-i g l = polys g.F.Field.val l.multiples ≡ map (λ x. constant (g.F.Field.val l.c) *ᵖ x) (polys g.F.Field.val (take l.i l.list))

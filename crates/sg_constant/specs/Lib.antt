@@ -1,0 +1,4 @@
+pub mod Shares
+pub mod Multiples
+pub mod Conditions
+pub mod Reductions

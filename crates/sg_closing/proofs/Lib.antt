@@ -1,0 +1,5 @@
+pub mod RationalParts
+pub mod Constants
+pub mod Summing
+pub mod Bases
+pub mod Moved

@@ -1,2 +1,4 @@
 pub mod Sending
+pub mod Parted
+pub mod Defined
 pub mod Replies

@@ -1,5 +1,6 @@
 -- Answers, layer by layer: of expressions, of texts, of words, and what a sink then holds.
---   IsWideReply       `wide <step>`: a step that doesn't fit, and the command is none that never is wide
+--   IsWideReply       `wide <step>`: a step that doesn't fit, and the command is none that never is wide; it stands in place of a pole's line only
+--                     where a part is heavy
 --   IsTakenReply      the answer for expressions that keep the limits and that the command takes
 --   IsCountedReply    for expressions that keep the limits
 --   IsTreeReply       for expressions
@@ -22,7 +23,7 @@ use Rattle.sg_words.specs.Words.{IsCommand, IsNoCommand}
 use Rattle.sg_words.specs.declared.asked.Command.{Command}
 use Rattle.sg_top.specs.Lines.{wide_line}
 use Rattle.sg_top.specs.Stages.{AreRead, IsTaken}
-use Rattle.sg_top.specs.Refusals.{IsTextRefusal, IsCountRefusal, IsLaterRefusal}
+use Rattle.sg_top.specs.Refusals.{IsTextRefusal, IsCountRefusal, IsLaterRefusal, IsPoleRefusal, IsSpared, HasHeavyPart}
 use Rattle.sg_top.specs.Output.{IsDefined, IsWideStep, IsNarrow}
 use Rattle.sg_top.specs.declared.status.Status.{Status}
 use Rattle.sg_top.specs.declared.status.Status.TheVariants.{Usage, Refused, Wide, Memory, WriteFault}
@@ -30,11 +31,13 @@ use Rattle.sg_top.specs.declared.status.Status.TheVariants.{Usage, Refused, Wide
 pub record IsWideReply (c : Command) (es : List Tree) (out : List ℕ) : Type 0 where
   pub step : WideStep
   pub cause : IsWideStep c es step
+  pub spared : IsSpared c es ⊎ HasHeavyPart c es
   pub not_narrow : IsNarrow c es → ⊥
   pub is : out ≡ wide_line step
 
 abbrev pub IsTakenReply : Command → List Tree → Status → List ℕ → Type 0
-IsTakenReply c es status out = ((status ≡ Wide) × IsWideReply c es out) ⊎ IsDefined c es status out
+IsTakenReply c es status out =
+    ((status ≡ Refused) × IsPoleRefusal c es out) ⊎ ((status ≡ Wide) × IsWideReply c es out) ⊎ (IsSpared c es × IsDefined c es status out)
 
 abbrev pub IsCountedReply : Command → List Tree → Status → List ℕ → Type 0
 IsCountedReply c es status out = ((status ≡ Refused) × IsLaterRefusal c es out) ⊎ (All (IsTaken c) es × IsTakenReply c es status out)

@@ -5,14 +5,22 @@
 --   placed          a kind of fault and its place
 --   refusal_words   why a text isn't read
 --   count_line      the count that passes its limit
-use Rattle.std.specs.Prelude.{ℕ, List, ◌++◌, ℤ, codes, decimal}
+--   letters_at      the letters of a scope by its depth: in a body the variable is j, and in one inside of it i, in turn
+--   scope_text      a tree in the letters of a scope at a depth
+--   part_text       a part of an expression in those of its scope
+--   pole_line       the part of a divisor or of a product's body that is 0, or may be too far out, and where it is 0
+use Rattle.std.specs.Prelude.{ℕ, ◌==◌, ◌%◌, List, [], ◌∷◌, ◌++◌, ℤ, codes, cond, decimal}
 use Rattle.std.specs.Fmt.{signed_decimal}
 use Rattle.sg_spec.specs.Reading.{Kind, numeral_fault, exponent_fault, unbound, form, Refusal, too_long, too_deep, no_text, faulty}
 use Rattle.sg_spec.specs.Limits.{CountFault, too_many_nodes, too_steep, too_many_sums, too_many_products}
+use Rattle.sg_spec.specs.Parts.{Part}
+use Rattle.sg_spec.specs.Tree.{Tree}
+use Rattle.sg_spec.specs.Faults.{PoleFault, far_pole, pole, zero_factor}
 use Rattle.sg_num.specs.declared.step.Op.{Op}
 use Rattle.sg_num.specs.declared.step.Op.TheVariants.{Add, Sub, Mul, Div}
 use Rattle.sg_num.specs.declared.step.Wide.{Wide}
 use Rattle.sg_num.specs.Value.{fraction}
+use Rattle.sg_text.specs.PrintedText.{printed}
 use Rattle.sg_text.specs.RationalText.{rational_text}
 
 abbrev pub closed_line : List ℕ → ℤ → List ℕ
@@ -50,3 +58,18 @@ count_line (too_many_nodes item) = item_line (codes "nodes") item
 count_line (too_steep item) = item_line (codes "degree") item
 count_line too_many_sums = codes "refused sums\n"
 count_line too_many_products = codes "refused products\n"
+
+abbrev pub letters_at : ℕ → List ℕ → List ℕ
+letters_at d [] = []
+letters_at d (v ∷ more) = cond (d == 0) v (cond (d % 2 == 1) 106 105) ∷ more
+
+abbrev pub scope_text : List ℕ → ℕ → Tree → List ℕ
+scope_text letters d t = printed (letters_at d letters) t
+
+abbrev pub part_text : List ℕ → Part → List ℕ
+part_text letters p = scope_text letters p.depth p.tree
+
+abbrev pub pole_line : List ℕ → PoleFault → List ℕ
+pole_line letters (far_pole x) = item_line (codes "far pole of " ++ part_text letters x.part) x.item
+pole_line letters (pole k x) = item_line (codes "pole at " ++ signed_decimal k ++ codes " of " ++ part_text letters x.part) x.item
+pole_line letters (zero_factor k x) = item_line (codes "zero factor at " ++ signed_decimal k ++ codes " of " ++ part_text letters x.part) x.item

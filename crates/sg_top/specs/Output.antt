@@ -1,5 +1,6 @@
 -- What an answer says of the expressions of a command's texts, once no refusal touches them.
 --   IsClosedLine      `closed <h> from <s>`: h is a canonical closed form, whose text is the one that is printed for it
+--   IsNoneLine        `none over k`: no expression over the sums of the texts telescopes f, from no point on
 --   IsFractionLine    the value of an expression, in lowest terms
 --   IsNoValueLine     `no value`: it has none
 --   IsDefined         the defined answer; a line a command
@@ -12,8 +13,11 @@ use Rattle.sg_spec.specs.Value.{val, SameValue}
 use Rattle.sg_spec.specs.Steps.{steps, IsFirstMisfit}
 use Rattle.sg_spec.specs.Reading.{Reads}
 use Rattle.sg_spec.specs.Limits.{degrees}
-use Rattle.sg_spec.specs.Polynomials.{IsCanonical, weight}
+use Rattle.sg_spec.specs.Polynomials.{IsPolynomial, weight}
+use Rattle.sg_spec.specs.Generators.{Over, sums, prods}
+use Rattle.sg_spec.specs.Canonical.{IsCanonicalOver}
 use Rattle.sg_spec.specs.Closed.{Closed}
+use Rattle.sg_spec.specs.Telescoping.{Tele}
 use Rattle.sg_num.specs.Value.{fraction}
 use Rattle.sg_num.specs.Stopped.{IsTooWide}
 use Rattle.sg_num.specs.declared.rat.Rat.{Rat}
@@ -32,9 +36,14 @@ pub record IsClosedLine (a : ℤ) (f : Tree) (others : List Tree) (status : Stat
   pub form : Tree
   pub first : ℤ
   pub closed : Closed f others a form first
-  pub canonical : IsCanonical form
+  pub canonical : IsCanonicalOver (prods (f ∷ others)) (sums (f ∷ others)) form
   pub reads_back : Reads (printed (codes "m") form) (codes "m") form
   pub is : out ≡ closed_line (printed (codes "m") form) first
+
+pub record IsNoneLine (f : Tree) (others : List Tree) (status : Status) (out : List ℕ) : Type 0 where
+  pub status_is : status ≡ No
+  pub none : (e : Tree) → Over (sums (f ∷ others)) e → ¬ Tele e f
+  pub is : out ≡ codes "none over k\n"
 
 pub record IsFractionLine (v : Option Fraction) (status : Status) (out : List ℕ) : Type 0 where
   pub status_is : status ≡ Done
@@ -50,7 +59,7 @@ pub record IsNoValueLine (v : Option Fraction) (status : Status) (out : List ℕ
 -- the first text is the summand, and the others lend their sums
 abbrev pub IsSumOutput : ℤ → List Tree → Status → List ℕ → Type 0
 IsSumOutput a [] status out = ⊥
-IsSumOutput a (f ∷ others) status out = IsClosedLine a f others status out
+IsSumOutput a (f ∷ others) status out = IsClosedLine a f others status out ⊎ IsNoneLine f others status out
 
 abbrev pub IsValueOutput : ℤ → ℤ → List Tree → Status → List ℕ → Type 0
 IsValueOutput n k (e ∷ []) status out = IsFractionLine (val e n k) status out ⊎ IsNoValueLine (val e n k) status out
@@ -72,5 +81,5 @@ IsWideStep (ValueAtParameter n k) es step = IsValueStep n k es step
 IsWideStep c es step = IsTooWide step
 
 abbrev pub IsNarrow : Command → List Tree → Type 0
-IsNarrow (Sum a) (f ∷ []) = ((degrees f).variable ≤ 1) × (weight f ≤ 65536) × (unsigned_abs a ≤ 64)
+IsNarrow (Sum a) (f ∷ []) = IsPolynomial f × ((degrees f).variable ≤ 1) × (weight f ≤ 65536) × (unsigned_abs a ≤ 64)
 IsNarrow c es = ⊥

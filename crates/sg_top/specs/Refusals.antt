@@ -2,13 +2,17 @@
 --   IsTextRefusal     the first text that isn't read
 --   IsCountRefusal    the first count that passes its limit
 --   IsLaterRefusal    the first expression that the command doesn't take yet
+--   IsPoleRefusal     the first far pole; or else the first pole, or else the first zero factor, with the least point
+--   IsSpared          there is none of these
+--   HasHeavyPart      some part is too heavy to be looked at
 use Rattle.std.specs.Prelude.{◌≡◌, ℕ, ◌+◌, List, ◌∷◌, ◌++◌, All, length, Some, codes}
 use Rattle.sg_spec.specs.Tree.{Tree}
 use Rattle.sg_spec.specs.Reading.{Refusal, IsRefused}
 use Rattle.sg_spec.specs.Limits.{CountFault, counted}
+use Rattle.sg_spec.specs.Faults.{parts_of, PoleFault, IsPoleFault, AreSpared, Among, IsHeavyNumbered}
 use Rattle.sg_words.specs.declared.asked.Command.{Command}
-use Rattle.sg_top.specs.Lines.{item_line, refusal_words, count_line}
-use Rattle.sg_top.specs.Stages.{input_bounds, letters_of, AreRead, IsTaken}
+use Rattle.sg_top.specs.Lines.{item_line, refusal_words, count_line, pole_line}
+use Rattle.sg_top.specs.Stages.{input_bounds, letters_of, lower_of, AreRead, IsTaken}
 
 pub record IsTextRefusal (c : Command) (texts : List (List ℕ)) (out : List ℕ) : Type 0 where
   pub before : List (List ℕ)
@@ -34,3 +38,14 @@ pub record IsLaterRefusal (c : Command) (es : List Tree) (out : List ℕ) : Type
   pub taken : All (IsTaken c) before
   pub not_taken : IsTaken c expression → ⊥
   pub is : out ≡ item_line (codes "later") (length before + 1)
+
+pub record IsPoleRefusal (c : Command) (es : List Tree) (out : List ℕ) : Type 0 where
+  pub fault : PoleFault
+  pub cause : IsPoleFault (parts_of (lower_of c) es) fault
+  pub is : out ≡ pole_line (letters_of c) fault
+
+abbrev pub IsSpared : Command → List Tree → Type 0
+IsSpared c es = AreSpared (parts_of (lower_of c) es)
+
+abbrev pub HasHeavyPart : Command → List Tree → Type 0
+HasHeavyPart c es = Among IsHeavyNumbered (parts_of (lower_of c) es)

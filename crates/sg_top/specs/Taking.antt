@@ -1,14 +1,21 @@
 -- What comes of the texts of a command, step by step.
 --   IsReadAs       their expressions; or the line of the first text that isn't read
 --   IsOutcome      their expressions, which keep the counted limits; or the line of a refusal
+--   AreInForm      expressions as they are read
 --   IsStopped      the reply of a step that doesn't fit
+--   IsPoleCause    what the search for poles tells once the counted limits are kept
+--   IsPoleReply    its reply: the line of a refusal; or a step that doesn't fit, where a part is heavy
 --   IsValueLine    the reply of a value, or of no value
 --   IsStepOf       the line of the first step of an evaluation that doesn't fit
 --   IsEvaluated    the reply of an evaluation of an expression for a parameter and a variable
-use Rattle.std.specs.Prelude.{◌≡◌, ℕ, List, [], ◌∷◌, ◌++◌, map, ℤ, Option, Some, None, ◌⊎◌, codes}
+use Rattle.std.specs.Prelude.{◌≡◌, ℕ, List, [], ◌∷◌, ◌++◌, map, ℤ, false, Option, Some, None, ◌⊎◌, codes}
 use Rattle.sg_spec.specs.Tree.{Tree}
 use Rattle.sg_spec.specs.Steps.{steps, IsFirstMisfit}
+use Rattle.sg_algebra.specs.Coefficients.{Each}
 use Rattle.sg_spec.specs.Limits.{counted}
+use Rattle.sg_spec.specs.Printing.{has_parameter, InForm}
+use Rattle.sg_limits.specs.Counts.{IsFault}
+use Rattle.sg_limits.specs.declared.fault.LimitFault.{LimitFault}
 use Rattle.sg_num.specs.Value.{fraction}
 use Rattle.sg_num.specs.Stopped.{IsTooWide}
 use Rattle.sg_num.specs.declared.rat.Rat.{Rat}
@@ -17,12 +24,13 @@ use Rattle.sg_text.specs.RationalText.{rational_text}
 use Rattle.sg_expr.specs.Tree.{tree_of}
 use Rattle.sg_value.specs.Answer.{step_of}
 use Rattle.sg_words.specs.declared.asked.Command.{Command}
+use Rattle.sg_words.specs.declared.asked.Command.TheVariants.{Sum}
 use Rattle.sg_top.specs.Lines.{wide_line}
-use Rattle.sg_top.specs.Stages.{AreRead}
-use Rattle.sg_top.specs.Refusals.{IsTextRefusal, IsCountRefusal}
+use Rattle.sg_top.specs.Stages.{letters_of, AreRead}
+use Rattle.sg_top.specs.Refusals.{IsTextRefusal, IsCountRefusal, IsPoleRefusal, HasHeavyPart}
 use Rattle.sg_top.specs.Output.{IsValueOutput}
 use Rattle.sg_top.specs.declared.status.Status.{Status}
-use Rattle.sg_top.specs.declared.status.Status.TheVariants.{Done, No, Wide}
+use Rattle.sg_top.specs.declared.status.Status.TheVariants.{Done, No, Refused, Wide}
 use Rattle.sg_top.specs.declared.taken.Taken.{Taken}
 use Rattle.sg_top.specs.declared.taken.Taken.TheVariants.{Items, Line}
 
@@ -34,11 +42,20 @@ abbrev pub IsOutcome : Command → List (List ℕ) → Taken → Type 0
 IsOutcome c texts (Items es) = AreRead c texts (map tree_of es) × (counted (map tree_of es) ≡ None)
 IsOutcome c texts (Line line) = IsTextRefusal c texts line.items ⊎ ((es : List Tree) × AreRead c texts es × IsCountRefusal es line.items)
 
+abbrev pub AreInForm : Command → List Tree → Type 0
+AreInForm c es = Each (InForm (has_parameter (letters_of c)) false) es
+
 pub record IsStopped (status : Status) (line : List ℕ) : Type 0 where
   pub wide : status ≡ Wide
   pub step : WideStep
   pub too_wide : IsTooWide step
   pub is : line ≡ wide_line step
+
+abbrev pub IsPoleCause : LimitFault → ℤ → List Tree → Type 0
+IsPoleCause fault a es = (counted es ≡ None) × IsFault fault (Some a) es
+
+abbrev pub IsPoleReply : ℤ → List Tree → Status → List ℕ → Type 0
+IsPoleReply a es status line = ((status ≡ Refused) × IsPoleRefusal (Sum a) es line) ⊎ (IsStopped status line × HasHeavyPart (Sum a) es)
 
 abbrev pub IsValueLine : Option Rat → Status → List ℕ → Type 0
 IsValueLine (Some r) status line = (status ≡ Done) × (line ≡ rational_text (fraction r) ++ codes "\n")

@@ -1,6 +1,8 @@
-ghost use Rattle.std.specs.Prelude.{◌≡◌, IfOk, length, map, string_bytes};
+ghost use Rattle.std.specs.Prelude.{◌≡◌, None, IfOk, length, map, string_bytes};
 ghost use Rattle.sg_expr.specs.Tree.{tree_of};
+ghost use Rattle.sg_spec.specs.Limits.{counted};
 ghost use Rattle.sg_top.specs.Answer.{IsReply, IsCountedReply, Input, IsAnswer};
+ghost use Rattle.sg_top.specs.Taking.{AreInForm};
 
 use crate::Status;
 use crate::reply::Reply;
@@ -44,13 +46,15 @@ fn command_reply(alloc: Global, command: Command, texts: &[String]) -> Result<Re
 
 // The answer for an expression that keeps the counted limits; a line a command.
 fn output(alloc: Global, command: Command, items: &Row<Expr>) -> Result<Reply, AllocError>
-    requires { length items.now ≡ 1 }
+    requires one { length items.now ≡ 1 }
+    requires form { AreInForm command (map tree_of items.now) }
+    requires kept { counted (map tree_of items.now) ≡ None }
     ensures { IfOk result (λ r. IsCountedReply command (map tree_of items.now) r.status r.text.items) }
 {
     let e = items.get(0);
     match command {
         Command::Sum { lower } => {
-            let reply = sum_reply(alloc, e, lower)?;
+            let reply = sum_reply(alloc, items, lower)?;
             Ok(reply)
         }
         Command::Value { point } => {

@@ -3,6 +3,7 @@
 
 mod answer;
 mod lines;
+mod poles;
 mod reply;
 mod send;
 mod status;

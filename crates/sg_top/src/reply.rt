@@ -1,9 +1,11 @@
 ghost use Rattle.std.specs.Prelude.{◌≡◌, IfOk};
+ghost use Rattle.sg_num.specs.Stopped.{KeepsWideStep, IsMemory};
 ghost use Rattle.sg_top.specs.Lines.{wide_line};
+ghost use Rattle.sg_top.specs.Taking.{IsStopped};
 
 use crate::Status;
 use crate::lines::wide_text;
-use sg_num::Wide;
+use sg_num::{Stop, Wide};
 use std::alloc::{AllocError, Global};
 
 /// The whole text of an answer, and its status.
@@ -54,5 +56,20 @@ impl Reply {
             text,
             status: Status::Wide,
         })
+    }
+
+    /// The line of what stopped a call: a step that doesn't fit.
+    pub fn stopped(alloc: Global, stop: Stop) -> Result<Reply, AllocError>
+        requires { KeepsWideStep stop }
+        ensures line { IfOk result (λ r. IsStopped r.status r.text.items) }
+        ensures no_memory { IfOk result (λ _. IsMemory stop → ⊥) }
+    {
+        match stop {
+            Stop::Wide(wide) => {
+                let reply = Reply::wide(alloc, wide)?;
+                Ok(reply)
+            }
+            Stop::Memory(want) => Err(want),
+        }
     }
 }

@@ -34,8 +34,40 @@ fn answers_the_known_rows(rt: HostRuntime) -> Result<(), Fail> {
             "closed 999999999999999999*m from 1\n",
             Status::Done,
         ),
-        ("sum 1 1/k", "refused later item 1\n", Status::Refused),
+        ("sum 1 1/(k*(k+1))", "closed m/(m+1) from 1\n", Status::Done),
+        (
+            "sum 3 1/((k-1)*(k-2))",
+            "closed (m-2)/(m-1) from 3\n",
+            Status::Done,
+        ),
+        (
+            "sum 1 (k^2+k)/(k+1)",
+            "closed (m^2+m)/2 from 1\n",
+            Status::Done,
+        ),
+        ("sum 1 1/k", "none over k\n", Status::No),
+        (
+            "sum 0 1/k",
+            "refused pole at 0 of k item 1\n",
+            Status::Refused,
+        ),
+        (
+            "sum -5 1/(k*(k+1))",
+            "refused pole at 0 of k item 1\n",
+            Status::Refused,
+        ),
+        (
+            "sum 1 1/(k-5000)",
+            "refused far pole of k-5000 item 1\n",
+            Status::Refused,
+        ),
+        (
+            "sum 1 1/(k-k)",
+            "refused pole at 1 of k-k item 1\n",
+            Status::Refused,
+        ),
         ("sum 1 H(k)", "refused later item 1\n", Status::Refused),
+        ("sum 0 1/k+H(k)", "refused later item 1\n", Status::Refused),
         ("sum 1 k+", "refused syntax at 2 item 1\n", Status::Refused),
         (
             "sum 1 1000000000000000000",

@@ -5,21 +5,24 @@ use Rattle.sg_expr.specs.Tree.{tree_of}
 use Rattle.sg_top.proofs.Replies.{lone, value-reply, parameter-reply}
 use Rattle.sg_top.proofs.answer.output.Goals as goal
 
+pub sum_reply-requires-clause-form : goal.sum_reply-requires-clause-form
+sum_reply-requires-clause-form c = rw c.in-Sum.is at c.requires.form
+
 pub returns-in_ok-reply-in-Sum : goal.returns-in_ok-reply-in-Sum
 returns-in_ok-reply-in-Sum c =
     let fits : FitsSigned w64 c.in-Sum.lower = search rules in
-    rw (c.in-Sum.is, lone c.args.items.now c.get-e.result.now c.requires c.get-e.ensures) (simp to_z-of_z at c.in_ok-reply-in-Sum.ensures)
+    rw c.in-Sum.is (simp to_z-of_z at c.in_ok-reply-in-Sum.ensures)
 
 pub returns-in_ok-reply-in-Value : goal.returns-in_ok-reply-in-Value
 returns-in_ok-reply-in-Value c =
     let fits : FitsSigned w64 c.in-Value.point = search rules in
-    rw (c.in-Value.is, lone c.args.items.now c.get-e.result.now c.requires c.get-e.ensures)
+    rw (c.in-Value.is, lone c.args.items.now c.get-e.result.now c.requires.one c.get-e.ensures)
     (value-reply c.in-Value.point (tree_of c.get-e.result.now) c.in_ok-reply-in-Value.reply.status c.in_ok-reply-in-Value.reply.text.items (simp to_z-of_z at c.in_ok-reply-in-Value.ensures))
 
 pub returns-in_ok-reply-in-ValueAtParameter : goal.returns-in_ok-reply-in-ValueAtParameter
 returns-in_ok-reply-in-ValueAtParameter c =
     let fits_n : FitsSigned w64 c.in-ValueAtParameter.parameter = search rules in
     let fits_k : FitsSigned w64 c.in-ValueAtParameter.point = search rules in
-    rw (c.in-ValueAtParameter.is, lone c.args.items.now c.get-e.result.now c.requires c.get-e.ensures)
+    rw (c.in-ValueAtParameter.is, lone c.args.items.now c.get-e.result.now c.requires.one c.get-e.ensures)
     (parameter-reply c.in-ValueAtParameter.parameter c.in-ValueAtParameter.point (tree_of c.get-e.result.now) c.in_ok-reply-in-ValueAtParameter.reply.status
     c.in_ok-reply-in-ValueAtParameter.reply.text.items (simp to_z-of_z at c.in_ok-reply-in-ValueAtParameter.ensures))

@@ -1,4 +1,4 @@
-use Rattle.sg_top.proofs.sums.stopped.Goals as goal
+use Rattle.sg_top.proofs.reply.Reply.stopped.Goals as goal
 
 pub returns-in_ok-reply-in-Wide-clause-line : goal.returns-in_ok-reply-in-Wide-clause-line
 returns-in_ok-reply-in-Wide-clause-line c = record {

@@ -1,17 +1,28 @@
 -- Inverses of rational functions, and their terms.
-use Rattle.std.proofs.Common.{◌≡◌, ℕ, suc, refl, sym, ◌∙◌, ap, List, [], ◌∷◌, ◌++◌, map, length, ℤ, arith}
+use Rattle.std.proofs.Common.{◌≡◌, ℕ, suc, refl, sym, ◌∙◌, ap, List, [], ◌∷◌, ◌++◌, map, length, ℤ, Bool, false, cond, nat_lt, ◌-◌, arith}
 use Rattle.sg_algebra.proofs.Value.{Value, zero_value, one_value, inv_value, ◌/ᵛ◌}
 use Rattle.sg_algebra.proofs.ValueField.{value_mul_comm, value_mul-one, value_add-zero}
 use Rattle.sg_tower_theory.proofs.Flat.{unit_in}
+use Rattle.sg_tower_theory.proofs.Formal.{rational, own_sum}
 use Rattle.sg_ratfun.specs.Reduced.{IsReduced}
 use Rattle.sg_ratfun.specs.Fractions.{ratio}
 use Rattle.sg_theory.proofs.Listed.{poly_coprime}
 use Rattle.sg_tower.specs.declared.flat.FlatTerm.{FlatTerm}
-use Rattle.sg_tower.specs.Terms.{IsInverse, IsNoUnit, HasTerms}
+use Rattle.sg_tower.specs.Terms.{own_product, IsGenerator, IsInverse, IsNoUnit, HasTerms}
 use Rattle.sg_bottom.specs.Functions.{functions}
 use Rattle.sg_bottom.proofs.Shifting.{lower_ne}
 
+not_below : (i : ℕ) → nat_lt i 0 ≡ false
+not_below i = grind arith
+
 module _ {d : ℕ} {K : Type 0} (v : K → Value d) where
+  -- there is no generator: the word of the clause says 0
+  pub generator_is : (i : ℕ) (r : List K × List K) → ratio v r ≡ zero_value → IsGenerator (functions v) i r
+  generator_is i r z = z ∙ sym (tested (nat_lt i 0) (not_below i))
+    where
+      tested : (b : Bool) → b ≡ false → cond b (own_product (rational {d = d}) i) (own_sum (rational {d = d}) (i - 0)) ≡ zero_value
+      tested b e = rw e refl
+
   pub inverse_is : (e one r : List K × List K) → ¬ (ratio v e ≡ zero_value) → ratio v one ≡ one_value → ratio v r ≡ ratio v one /ᵛ ratio v e → IsInverse (functions v) e r
   inverse_is e one r some h q = record {
     exponents = [];

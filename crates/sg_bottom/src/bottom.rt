@@ -1,3 +1,8 @@
+ghost use Rattle.std.specs.Prelude.{IfOk, IfErr};
+ghost use Rattle.sg_num.specs.Stopped.{KeepsWideStep};
+ghost use Rattle.sg_tower.specs.Terms.{IsGenerator};
+ghost use Rattle.sg_bottom.specs.Functions.{functions};
+
 use sg_matrix::Solution;
 use sg_num::{Field, Row, Stop};
 use sg_ratfun::RatFun;
@@ -54,8 +59,11 @@ impl<F: Field> Tower for Bottom<F> {
         Ok(copy)
     }
 
-    /// It has no generator, so there is no call of this one.
-    fn generator(&self, alloc: Global, i: u32) -> Result<RatFun<F>, Stop> {
+    /// It has no generator: what the word of the clause says of one that isn't there is 0.
+    fn generator(&self, alloc: Global, i: u32) -> Result<RatFun<F>, Stop>
+        ensures value { IfOk result (IsGenerator (functions F.val) i) }
+        ensures wide { IfErr result KeepsWideStep }
+    {
         let _ = i;
         let r: RatFun<F> = Field::zero(alloc)?;
         Ok(r)

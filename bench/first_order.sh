@@ -2,7 +2,7 @@
 # Times `solve_first` of sg_rational over the fractions, and counts where it is wide. Not part of the gate.
 # It writes a program into a copy of the crates in a temporary folder, builds it there, and prints for each kind of right side and each
 # degree of its denominator: the processor's time for one call, how many pairs it answers, the greatest number in them, and how many of 20
-# seeds are `wide` (a step doesn't fit 128 bits) or end for want of memory.
+# seeds are `wide` (a step doesn't fit 128 bits) or end as memory ran out.
 #   one       a = 1, f = 1/((q k + c) ..) with q from 1 to 2 and c up to 20
 #   two       a = 2, the same f
 #   line      a = (k + 2)/(k + 5), the same f

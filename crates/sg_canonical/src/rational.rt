@@ -19,7 +19,7 @@ use std::alloc::Global;
 
 /// The canonical tree of a rational function of the variable: the quotient of its numerator and denominator with whole
 /// coefficients that have no common divisor, the leading one below above 0, each polynomial as its monomials, the highest
-/// first. Equal functions have one tree. The error is want of memory, or a step that doesn't fit 128 bits.
+/// first. Equal functions have one tree. The error is out of memory, or a step that doesn't fit 128 bits.
 pub fn rational_tree(alloc: Global, r: &RatFun<Rat>) -> Result<Expr, Stop>
     ensures tree { IfOk result (λ t. IsRationalTree (ratio number r.now) (tree_of t)) }
     ensures canonical { IfOk result (λ t. IsCanonicalOver [] [] (tree_of t)) }

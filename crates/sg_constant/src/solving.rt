@@ -190,7 +190,7 @@ fn factors_of<F: Field>(alloc: Global, a: &F) -> Result<Factors<F>, Stop>
 /// A basis of all pairs of constants c and rational functions g with a g(k+1) - g(k) = c_0 f_0(k) + c_1 f_1(k) + .., for a constant
 /// a that isn't 0. Each f is split into a polynomial and small fractions; where denominators have images in common, the fractions
 /// are moved together, and what is left has to vanish (Abramov 1975, Paule 1995). For a = 1 and f = 1/(k(k+1)) it is the pair of
-/// 0 and 1, and that of 1 and -1/k. It stops at a kept step that doesn't fit or for want of memory.
+/// 0 and 1, and that of 1 and -1/k. It stops at a kept step that doesn't fit or because it is out of memory.
 pub fn solve_constant<F: Field>(
     alloc: Global,
     a: &F,

@@ -4,7 +4,7 @@
 --   IsShown       what is told of a part: its expression, its tree and its depth
 --   IsSought      poles are sought from a lower limit on, over these parts
 --   IsPoleOf      a fault of the parts, by what is told of it
---   IsFault       the fault that the counts have, or else the parts; want of memory, which is free; or a step that doesn't fit, where there is
+--   IsFault       the fault that the counts have, or else the parts; out of memory, which is free; or a step that doesn't fit, where there is
 --                 a heavy part
 --   start_from    the start, 0 without a lower limit
 --   AreFacts      the start, 0 without a lower limit, and the distinct sums and products

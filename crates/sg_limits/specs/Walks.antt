@@ -11,7 +11,7 @@
 --   FindsFirst place t at known new      with the tree at the place, if it is 0 first at this number, what is found is the first
 --   IsRefusal f xs           the fault of all parts
 --   AreWalked xs f r         what a walk over these parts answers
---   IsWalkFault f xs        the first far pole; or a step that doesn't fit, where there is a heavy part; or want of memory, which is free
+--   IsWalkFault f xs        the first far pole; or a step that doesn't fit, where there is a heavy part; or out of memory, which is free
 use Rattle.std.specs.Prelude.{ℕ, ℤ, pos, ◌≤ℤ◌, ◌<ℤ◌, List, [], ◌∷◌, ◌++◌, Option, Some, None, Result, IfOk, IfErr}
 use Rattle.sg_spec.specs.Tree.{Tree, numeral, here, param, add, neg, mul, div, power, sum_from, prod_from}
 use Rattle.sg_spec.specs.Parts.{parts, own_part, anywhere, divides, is_body}

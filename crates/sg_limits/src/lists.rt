@@ -9,7 +9,7 @@ use std::alloc::{AllocError, Global};
 
 const MOST_PRODUCTS_OF_ONE: usize = 4;
 
-/// The distinct sums of all expressions, in their order. The error is want of memory, as in all of this file.
+/// The distinct sums of all expressions, in their order. The error is out of memory, as in all of this file.
 pub fn all_sums(alloc: Global, items: &[Expr]) -> Result<Row<Expr>, AllocError>
     ensures { IfOk result (λ list. map tree_of list ≡ sums (map tree_of items.now)) }
 {

@@ -1,8 +1,8 @@
 -- Why a computing call may stop.
 --   IsTooWide        a kept step doesn't fit
---   IsMemory         a call stopped for want of memory, and for nothing else
+--   IsMemory         a call stopped because it was out of memory, and for nothing else
 --   IsStep op x y   a call stopped at the step x op y, which doesn't fit
---   KeepsWideStep    a call stopped for want of memory, which is free, or at a kept step that doesn't fit
+--   KeepsWideStep    a call stopped because it was out of memory, which is free, or at a kept step that doesn't fit
 use Rattle.std.specs.Prelude.{◌≡◌, IsTrue}
 use Rattle.sg_num.specs.Value.{fraction}
 use Rattle.sg_num.specs.Steps.{fits_step}

@@ -19,7 +19,7 @@ pub struct Probe {
 }
 
 /// A field of quotients of polynomials over quotients of polynomials, and so on, over the fractions. Every call that answers
-/// a `Stop` gives its exact result, or stops for want of memory, or at a step that doesn't fit, which it keeps.
+/// a `Stop` gives its exact result, or stops, out of memory or at a step that doesn't fit, which it keeps.
 pub trait Field: Drop {
     /// How many variables it has.
     ghost vars: { ℕ };

@@ -180,7 +180,7 @@ mod tests {
                 assert!(rt; probe.args.is_empty());
                 assert_eq!(rt; probe.values.as_slice(), [a, b].as_slice());
             }
-            Err(_) => assert!(rt; false, "want of memory"),
+            Err(_) => assert!(rt; false, "out of memory"),
         }
     }
 }

@@ -18,7 +18,7 @@ const MOST: u32 = 524_288;
 /// The whole roots of the polynomial other than 0 with these coefficients, the lowest first, in ascending order. The
 /// coefficients are made whole, a power of 2 is found that no root reaches in size, by Cauchy's bound, and the numbers below it
 /// are tried by exact divisions. Where this power would be above 2^19, so that more than 2^20 numbers would be tried, the answer
-/// is want of memory.
+/// is out of memory.
 pub fn whole_roots(alloc: Global, list: &[Rat]) -> Result<Row<i128>, Stop>
     requires { ¬ (poly (map number list.now) ≡ zero_polynomial) }
     ensures ascending { IfOk result (AllPairs ◌<ℤ◌) }

@@ -28,7 +28,7 @@ impl<T: Drop> Row<T> {
         }
     }
 
-    /// Adds an item at the end. The error is want of memory; then the list is as it was.
+    /// Adds an item at the end. The error is out of memory; then the list is as it was.
     pub fn push(&mut self, item: T) -> Result<(), AllocError>
         ensures ok { OnOk result (self.new ≡ self.old ++ item ∷ []) }
         ensures err { OnErr result (self.new ≡ self.old) }
@@ -37,7 +37,7 @@ impl<T: Drop> Row<T> {
         Ok(())
     }
 
-    /// Moves all items of the other list to the end. The error is want of memory; then both are as they were.
+    /// Moves all items of the other list to the end. The error is out of memory; then both are as they were.
     pub fn append(&mut self, other: &mut Row<T>) -> Result<(), AllocError>
         ensures ok { OnOk result ((self.new ≡ self.old ++ other.old) × (other.new ≡ [])) }
         ensures err { OnErr result ((self.new ≡ self.old) × (other.new ≡ other.old)) }
@@ -45,7 +45,7 @@ impl<T: Drop> Row<T> {
         self.items.append(&mut other.items)
     }
 
-    /// Puts an item at place `i`, counted from 0, before those from there on. The error is want of memory; then the list is as it
+    /// Puts an item at place `i`, counted from 0, before those from there on. The error is out of memory; then the list is as it
     /// was.
     pub fn insert(&mut self, i: usize, item: T) -> Result<(), AllocError>
         requires { i ≤ length self.old }

@@ -6,7 +6,7 @@
 --   IsHeavyRatio r      one of both is at least 2^127
 --   AreSumWeights, AreProductWeights    of the sum and of the product of two fractions with such weights
 --   IsLightSum, IsHeavySum              the numerator of the sum of two fractions weighs less than 2^127, or not
---   StopsHeavy s t      want of memory, which is free; or a kept step that doesn't fit, where the numerator of the tree is heavier than 2^126
+--   StopsHeavy s t      out of memory, which is free; or a kept step that doesn't fit, where the numerator of the tree is heavier than 2^126
 --   AreRatio p q r      the polynomials of a numerator and of a denominator
 --   IsOppositeRatio, .. IsPowerRatio    o over u is the opposite of a over b, the sum or product of a over b and c over d, a power of a over b
 use Rattle.std.specs.Prelude.{◌≡◌, ℕ, ◌+◌, ◌*◌, ◌^◌, ◌<◌, ◌≤◌, max, pos, ◌≤ℤ◌}

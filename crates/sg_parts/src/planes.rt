@@ -7,7 +7,7 @@ use crate::rows::{add_product, add_times, trimmed, zeros};
 use sg_num::Row;
 use std::alloc::{AllocError, Global};
 
-/// No more coefficients than that are made: want of memory is answered for more.
+/// No more coefficients than that are made: the answer is out of memory for more.
 const MOST: usize = 0x10_0000;
 
 /// 1.

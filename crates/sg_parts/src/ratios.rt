@@ -18,7 +18,7 @@ pub struct Ratio {
     pub under: Row<Line>,
 }
 
-/// The polynomials of the numerator and the denominator of a tree, without reducing. The error is want of memory, as in all of
+/// The polynomials of the numerator and the denominator of a tree, without reducing. The error is out of memory, as in all of
 /// this file.
 pub fn ratio_of(alloc: Global, e: &Expr) -> Result<Ratio, AllocError>
     requires over { weight (ratio_of (tree_of e.now)).over < 2 ^ 127 }

@@ -5,24 +5,17 @@ use crate::line::Line;
 use crate::roots::{length_of, sum};
 use std::alloc::{AllocError, Global};
 
-// The product.
-fn product(a: i128, b: i128) -> i128
-    requires { unsigned_abs a * unsigned_abs b < 2 ^ 127 }
-    ensures { result ≡ a *ℤ b }
-{
-    a * b
-}
-
-// Adds the term to the coefficient at a place.
-fn add_term(row: &mut Vec<i128>, at: usize, term: i128)
-    requires inside { at < length row.old.items }
-    requires light { row_size row.old.items + unsigned_abs term < 2 ^ 127 }
+// Adds the product of both lists.
+pub fn add_product(row: &mut Vec<i128>, p: &[i128], q: &[i128])
+    requires room { length p.now + length q.now ≤ length row.old.items }
+    requires light { row_size row.old.items + row_size p.now * row_size q.now < 2 ^ 127 }
     ensures size { length row.new.items ≡ length row.old.items }
-    ensures sum { (i : ℕ) → entry row.new.items i ≡ entry row.old.items i +ℤ moved at (term ∷ []) i }
-    ensures light { row_size row.new.items ≤ row_size row.old.items + unsigned_abs term }
+    ensures sum { (i : ℕ) → entry row.new.items i ≡ entry row.old.items i +ℤ entry (row_product p.now q.now) i }
+    ensures light { row_size row.new.items ≤ row_size row.old.items + row_size p.now * row_size q.now }
 {
-    let before = row[at];
-    row[at] = sum(before, term);
+    for i in 0..p.len() {
+        add_times(row, i, p[i], q);
+    }
 }
 
 // Adds `c` times the list, moved up to a place.
@@ -39,17 +32,24 @@ pub fn add_times(row: &mut Vec<i128>, at: usize, c: i128, list: &[i128])
     }
 }
 
-// Adds the product of both lists.
-pub fn add_product(row: &mut Vec<i128>, p: &[i128], q: &[i128])
-    requires room { length p.now + length q.now ≤ length row.old.items }
-    requires light { row_size row.old.items + row_size p.now * row_size q.now < 2 ^ 127 }
+// Adds the term to the coefficient at a place.
+fn add_term(row: &mut Vec<i128>, at: usize, term: i128)
+    requires inside { at < length row.old.items }
+    requires light { row_size row.old.items + unsigned_abs term < 2 ^ 127 }
     ensures size { length row.new.items ≡ length row.old.items }
-    ensures sum { (i : ℕ) → entry row.new.items i ≡ entry row.old.items i +ℤ entry (row_product p.now q.now) i }
-    ensures light { row_size row.new.items ≤ row_size row.old.items + row_size p.now * row_size q.now }
+    ensures sum { (i : ℕ) → entry row.new.items i ≡ entry row.old.items i +ℤ moved at (term ∷ []) i }
+    ensures light { row_size row.new.items ≤ row_size row.old.items + unsigned_abs term }
 {
-    for i in 0..p.len() {
-        add_times(row, i, p[i], q);
-    }
+    let before = row[at];
+    row[at] = sum(before, term);
+}
+
+// The product.
+fn product(a: i128, b: i128) -> i128
+    requires { unsigned_abs a * unsigned_abs b < 2 ^ 127 }
+    ensures { result ≡ a *ℤ b }
+{
+    a * b
 }
 
 // That many zeros.

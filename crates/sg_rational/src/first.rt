@@ -15,7 +15,7 @@ use std::alloc::Global;
 /// a isn't 0: every such pair is a combination of the pairs given. For a = 1 and f = 1/(k(k+1)) it is the pair of 0 and 1, and
 /// the pair of 1 and -1/k. A constant a goes by reduction (Abramov 1975), which keeps fractions small; any other by a bound on
 /// the denominators of all g and one on the degrees of their numerators (Abramov 1989, 1995), which leave a linear system. It
-/// stops at a kept step that doesn't fit or for want of memory; the latter also where a shift or a degree is past 2^20.
+/// stops at a kept step that doesn't fit or because it is out of memory; the latter also where a shift or a degree is past 2^20.
 pub fn solve_first<F: Field>(
     alloc: Global,
     a: &RatFun<F>,

@@ -36,7 +36,7 @@ pub record HasCappedTree (w : List ℕ) (t : Placed) : Type 0 where
   pub built : Builds after_byte capped_action (start ∷ []) w at_start end
   pub on_top : top_tree end.trees ≡ t
 
--- what makes the machine give up: the place at which the text stops being one, or want of memory
+-- what makes the machine give up: the place at which the text stops being one, or out of memory
 abbrev pub IsParseFault : List ℕ → SyntaxFault → Type 0
 IsParseFault w (Syntax p) = IsSyntaxFault w p
 IsParseFault w (Memory e) = Unit {0}

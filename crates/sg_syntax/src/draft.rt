@@ -285,7 +285,7 @@ impl Draft {
         self.push_tree(alloc, Node::ConstantPower(call, x, v))
     }
 
-    /// The action is done. The error is want of memory.
+    /// The action is done. The error is out of memory.
     pub fn act(&mut self, alloc: Global, action: Action) -> Result<(), AllocError>
         ensures { OnOk result (draft_of self.new ≡ capped_action (action_of action) (draft_of self.old)) }
     {

@@ -3,7 +3,7 @@ ghost use Rattle.std.specs.Prelude.{◌≡◌};
 use std::alloc::AllocError;
 use thiserror::Error;
 
-/// Why a text has no tree: the first place at which no text goes on like this, or want of memory. Places count bytes from 0.
+/// Why a text has no tree: the first place at which no text goes on like this, or out of memory. Places count bytes from 0.
 #[derive(Debug, Drop, Error)]
 pub enum SyntaxFault {
     #[error("no text goes on like this at {at}")]

@@ -13,7 +13,7 @@ use crate::symbol::Symbol;
 use crate::ways::way;
 use std::alloc::{AllocError, Global};
 
-/// The tree of a text, with its places. Errors: the place at which the text stops being one, and want of memory.
+/// The tree of a text, with its places. Errors: the place at which the text stops being one, and out of memory.
 pub fn parse(alloc: Global, text: &[u8]) -> Result<Box<Node>, SyntaxFault>
     requires { length text.now < 2 ^ 32 }
     ensures node { IfOk result (λ t. HasCappedTree text.now (placed_of t.value)) }

@@ -1,8 +1,8 @@
 -- The contract of `read`.
 --   IsFree          one or two different lower-case letters: the variable's, and the parameter's
---   refusal_of      the refusal that a fault of the reader tells; none for want of memory
+--   refusal_of      the refusal that a fault of the reader tells; none where it is out of memory
 --   Refuses         a fault tells the exact cause
---   IsTextFault     a fault tells the place at which the text stops being one, or want of memory
+--   IsTextFault     a fault tells the place at which the text stops being one, or out of memory
 --   OneTree         a text reads as at most one tree
 use Rattle.std.specs.Prelude.{◌≡◌, ◌≢◌, ℕ, ◌≤◌, List, [], ◌∷◌, Option, Some, None}
 use Rattle.sg_spec.specs.Tree.{Tree}

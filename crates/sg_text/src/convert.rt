@@ -14,7 +14,7 @@ use sg_expr::Expr;
 use sg_syntax::{Head, Node, Numeral};
 use std::alloc::{AllocError, Global};
 
-/// The expression of a node in this scope, in the node's place. The error is want of memory.
+/// The expression of a node in this scope, in the node's place. The error is out of memory.
 pub fn expr_of(alloc: Global, node: Box<Node>, scope: &Scope) -> Result<Box<Expr>, AllocError>
     ensures { IfOk result (λ e. FitsTree (placed_of node.value) → tree_of e.value ≡ tree_in (names_of scope.now) (placed_of node.value)) }
 {

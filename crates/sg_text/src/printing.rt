@@ -17,7 +17,7 @@ use std::alloc::{AllocError, Global};
 
 /// The text of an expression in one or two letters: the first names the variable, the second the parameter, and bound names
 /// are j and i in turn. It has no blanks, no parentheses that could be left out, and the shorthands wherever the tree is
-/// exactly theirs. The tree has to be one that some text reads as. The error is want of memory.
+/// exactly theirs. The tree has to be one that some text reads as. The error is out of memory.
 pub fn print(alloc: Global, e: &Expr, free: &[u8]) -> Result<Row<u8>, AllocError>
     requires letters { IsFree free.now }
     requires apart { SparesBound free.now }

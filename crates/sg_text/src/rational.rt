@@ -8,7 +8,7 @@ use sg_num::{Rat, Row};
 use std::alloc::{AllocError, Global};
 
 /// The text of a fraction: `p` where the denominator is 1 and `p/q` elsewhere, with a leading `-` where p is negative. The
-/// error is want of memory.
+/// error is out of memory.
 pub fn print_rat(alloc: Global, r: Rat) -> Result<Row<u8>, AllocError>
     ensures { IfOk result (λ w. w ≡ rational_text (fraction r)) }
 {

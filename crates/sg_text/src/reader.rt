@@ -21,7 +21,7 @@ use std::alloc::Global;
 
 /// The expression that a text reads as. `free` names the variable and, where it has two letters, the parameter.
 /// Errors: too many bytes, too many open parentheses, the place at which the text stops being one, the first of the
-/// other faults, and want of memory.
+/// other faults, and out of memory.
 pub fn read(alloc: Global, text: &[u8], free: &[u8], bounds: &Bounds) -> Result<Expr, ReadFault>
     requires { IsFree free.now }
     ensures expression { IfOk result (λ e. IsRead (bounds_of bounds.now) free.now text.now (tree_of e)) }

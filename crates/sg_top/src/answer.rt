@@ -14,7 +14,7 @@ use sg_num::Row;
 use sg_words::{Command, command_of};
 use std::alloc::{AllocError, Global};
 
-/// The answer to the words. The error is want of memory.
+/// The answer to the words. The error is out of memory.
 pub fn reply_to(alloc: Global, words: &[String]) -> Result<Reply, AllocError>
     ensures { IfOk result (λ r. (input : Input) → IsAnswer input (map string_bytes words.now) r.status r.text.items) }
 {

@@ -1,4 +1,4 @@
-//! The lines of answers. The error of each call is want of memory.
+//! The lines of answers. The error of each call is out of memory.
 ghost use Rattle.std.specs.Prelude.{◌≡◌, ◌++◌, IfOk, Some, decimal, codes};
 ghost use Rattle.sg_spec.specs.Reading.{Refusal};
 ghost use Rattle.sg_num.specs.Value.{fraction};

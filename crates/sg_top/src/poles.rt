@@ -17,7 +17,7 @@ use sg_text::print;
 use std::alloc::{AllocError, Global};
 
 /// The answer where a part of an expression is 0 or may be so too far out, or where a step on the way to this doesn't fit: what
-/// the search for poles answers once the counted limits are kept. The error is want of memory.
+/// the search for poles answers once the counted limits are kept. The error is out of memory.
 pub fn pole_reply(alloc: Global, fault: LimitFault) -> Result<Reply, AllocError>
     requires { (a : ℤ) × (es : List Tree) × Each (InForm false false) es × IsPoleCause fault a es }
     ensures { IfOk result (λ r. (a : ℤ) → (es : List Tree) → IsPoleCause fault a es → IsPoleReply a es r.status r.text.items) }

@@ -15,7 +15,7 @@ pub struct Reply {
     pub status: Status,
 }
 
-// The error of each call is want of memory.
+// The error of each call is out of memory.
 impl Reply {
     /// Fixed bytes.
     pub fn fixed(alloc: Global, text: &[u8], status: Status) -> Result<Reply, AllocError>

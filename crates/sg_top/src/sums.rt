@@ -26,7 +26,7 @@ use sg_text::print;
 use std::alloc::{AllocError, Global};
 
 /// The answer to the command that sums an expression from a on: polynomials are summed by themselves, other rational functions
-/// only where no part of a divisor is 0. The error is want of memory.
+/// only where no part of a divisor is 0. The error is out of memory.
 pub fn sum_reply(alloc: Global, items: &Row<Expr>, a: i64) -> Result<Reply, AllocError>
     requires one { length items.now ≡ 1 }
     requires form { Each (InForm false false) (map tree_of items.now) }

@@ -23,7 +23,7 @@ pub enum Taken {
     Line(Vec<u8>),
 }
 
-/// Reads the texts of a command and tests the counted limits. The error is want of memory.
+/// Reads the texts of a command and tests the counted limits. The error is out of memory.
 pub fn take(alloc: Global, command: Command, texts: &[String]) -> Result<Taken, AllocError>
     requires { length texts.now ≤ 16 }
     ensures { IfOk result (λ t. IsOutcome command (map string_bytes texts.now) t) }

@@ -13,7 +13,7 @@ use sg_num::Rat;
 use sg_value::value_at;
 use std::alloc::{AllocError, Global};
 
-/// The answer to a command that asks for the value of an expression for a parameter and a variable. The error is want of
+/// The answer to a command that asks for the value of an expression for a parameter and a variable. The error is out of
 /// memory.
 pub fn value_reply(alloc: Global, e: &Expr, n: i64, k: i64) -> Result<Reply, AllocError>
     ensures { IfOk result (λ r. IsEvaluated (tree_of e.now) n k r.status r.text.items) }

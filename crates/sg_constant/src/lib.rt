@@ -17,6 +17,3 @@ mod splitting;
 mod summing;
 
 pub use solving::solve_constant;
-
-#[cfg(test)]
-mod tests;

@@ -1,4 +1,6 @@
+use crate::ansatz::solve_by_denominators;
 use crate::{Solution, solve_first};
+use sg_constant::solve_constant;
 use sg_num::{Field, Rat, Row, Stop};
 use sg_poly::Poly;
 use sg_ratfun::RatFun;
@@ -55,15 +57,19 @@ fn known(alloc: Global, a: Parts, list: &[Parts]) -> Result<Option<Basis<Rat>>, 
     solved(alloc, &a, &fs)
 }
 
-// Whether there are so many pairs, and whether one has constants that aren't all 0.
-fn has<F: Field>(basis: &Basis<F>, pairs: usize, closed: bool) -> bool {
+// Whether one of the pairs has constants that aren't all 0.
+fn is_closed<F: Field>(basis: &Basis<F>) -> bool {
     let mut some = false;
     for s in basis.as_slice() {
         for c in s.coeffs.as_slice() {
             some = some || !c.is_zero();
         }
     }
-    basis.len() == pairs && some == closed
+    some
+}
+
+fn has<F: Field>(basis: &Basis<F>, pairs: usize, closed: bool) -> bool {
+    basis.len() == pairs && is_closed(basis) == closed
 }
 
 #[test]
@@ -151,6 +157,25 @@ fn finds_the_step_of_binomials(rt: HostRuntime) {
     assert!(rt; matches!(&basis, Ok(Some(b)) if has(b, 1, true)));
 }
 
+// 1/((k+n) (k+u+w n)): its residues are 1/(u+(w-1) n) and the opposite, and its roots differ by a whole number where w is 1.
+fn paired(alloc: Global, u: i128, w: i128) -> Result<Option<Basis<RatFun<Rat>>>, Stop> {
+    let lower = lines(alloc, &[(0, 1), (1, 0)])?;
+    let lower = lower.mul(alloc, &lines(alloc, &[(u, w), (1, 0)])?)?;
+    let upper = lines(alloc, &[(1, 0)])?;
+    let mut fs = Row::new(alloc);
+    fs.push(over(alloc, upper, lower)?)?;
+    let one = RatFun::one(alloc)?;
+    solved(alloc, &one, &fs)
+}
+
+#[test]
+fn telescopes_with_a_parameter(rt: HostRuntime) {
+    let closed = paired(rt.alloc(), 3, 1);
+    assert!(rt; matches!(&closed, Ok(Some(b)) if has(b, 2, true)));
+    let none = paired(rt.alloc(), 3, 2);
+    assert!(rt; matches!(&none, Ok(Some(b)) if has(b, 1, false)));
+}
+
 // 1/((q k + c) ..)
 fn one_over(alloc: Global, factors: &[(i128, i128)]) -> Result<RatFun<Rat>, Stop> {
     let mut lower = polynomial(alloc, &[1])?;
@@ -197,6 +222,50 @@ fn telescopes_as_partial_fractions_say(rt: HostRuntime) {
         assert!(rt;
             matches!(&basis, Ok(Some(b)) if has(b, pairs, closed)),
             "{factors:?}"
+        );
+    }
+}
+
+// Both engines on one equation with a constant coefficient; None where it is 0.
+fn by_both(
+    alloc: Global,
+    a: i128,
+    f: RatFun<Rat>,
+) -> Result<Option<(Basis<Rat>, Basis<Rat>)>, Stop> {
+    let mut fs = Row::new(alloc);
+    fs.push(f)?;
+    let c = Rat::whole(a);
+    let a = RatFun::from_rat(alloc, c)?;
+    if c.is_zero() || a.is_zero() {
+        return Ok(None);
+    }
+    let left = solve_constant(alloc, &c, &fs)?;
+    let right = solve_by_denominators(alloc, &a, &fs)?;
+    Ok(Some((left, right)))
+}
+
+// Whether they answer as many pairs, and constants other than 0 in the same case: each basis is one of all solutions.
+fn agree(alloc: Global, a: i128, factors: &[(i128, i128)]) -> Result<bool, Stop> {
+    let f = one_over(alloc, factors)?;
+    match by_both(alloc, a, f)? {
+        Some((left, right)) => Ok(has(&left, right.len(), is_closed(&right))),
+        None => Ok(false),
+    }
+}
+
+// Seeded products of factors q k + c.
+#[test]
+fn both_engines_answer_one_space(rt: HostRuntime) {
+    let mut state = 5u32;
+    for a in [1, 2, -1, 1, 3, -2, 1, 1] {
+        let mut factors = [(1, 0); 3];
+        for f in factors.iter_mut() {
+            state = state.wrapping_mul(1664525).wrapping_add(1013904223);
+            *f = ((state >> 16) as i128 % 2 + 1, (state >> 20) as i128 % 5);
+        }
+        assert!(rt;
+            matches!(agree(rt.alloc(), a, &factors), Ok(true)),
+            "{a} {factors:?}"
         );
     }
 }

@@ -11,9 +11,11 @@ mod rational;
 mod signs;
 mod whole;
 
+pub use common::{Common, over_common};
 pub use element::{Part, element_tree};
 pub use quotient::{Quotient, primitive_quotient};
 pub use rational::rational_tree;
+pub use whole::{opposite, opposites};
 
 #[cfg(test)]
 mod tests;

@@ -1,6 +1,8 @@
 //! Lists of whole numbers. Each operation is a step of fractions, so that one that doesn't fit is kept.
 ghost use Rattle.std.specs.Prelude.{◌≡◌, ◌*ℤ◌, neg_ℤ, map, IfOk, IfErr};
-ghost use Rattle.sg_num.specs.Stopped.{KeepsWideStep};
+ghost use Rattle.sg_algebra.specs.Coefficients.{Each};
+ghost use Rattle.sg_num.specs.Stopped.{IsMemory, KeepsWideStep};
+ghost use Rattle.sg_canonical.specs.Whole.{IsSmall};
 
 use sg_num::{Row, Stop, whole_difference, whole_product};
 use std::alloc::Global;
@@ -9,6 +11,7 @@ use std::alloc::Global;
 pub fn opposites(alloc: Global, list: &[i128]) -> Result<Row<i128>, Stop>
     ensures value { IfOk result (λ r. r ≡ map neg_ℤ list.now) }
     ensures wide { IfErr result KeepsWideStep }
+    ensures narrow { Each IsSmall list.now → IfErr result IsMemory }
 {
     let mut result = Row::new(alloc);
     for a in list {
@@ -22,6 +25,7 @@ pub fn opposites(alloc: Global, list: &[i128]) -> Result<Row<i128>, Stop>
 pub fn opposite(a: i128) -> Result<i128, Stop>
     ensures value { IfOk result (λ r. r ≡ neg_ℤ a) }
     ensures wide { IfErr result KeepsWideStep }
+    ensures narrow { IsSmall a → IfErr result IsMemory }
 {
     if a != i128::MIN {
         return Ok(-a);

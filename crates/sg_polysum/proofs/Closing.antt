@@ -16,7 +16,8 @@ use Rattle.sg_spec.specs.Tree.{Tree, numeral, here, param, add, neg, mul, div, p
 use Rattle.sg_spec.specs.Value.{val}
 use Rattle.sg_spec.proofs.Worth.{Worth, worth_cong, total_worth, whole_value-before}
 use Rattle.sg_polysum.proofs.Canonical.{worth-canonical}
-use Rattle.sg_polysum.specs.CommonDenominator.{IsCommon}
+use Rattle.sg_canonical.specs.Whole.{IsCommon}
+use Rattle.sg_polysum.proofs.CommonDenominator.{falling-common}
 use Rattle.sg_polysum.specs.Evaluation.{value_at}
 use Rattle.sg_polysum.specs.Terms.{falling_value}
 
@@ -152,7 +153,7 @@ pub worth-common : (q : List Rat) (cs : List ℤ) (d : ℤ) (k : ℤ) → IsComm
 worth-common q cs d k h =
     worth_cong (val (canonical cs (unsigned_abs d)) (pos 0) k) (falling_value cs (whole_value 0 k) /ᵛ whole_value 0 (pos (unsigned_abs d))) (value_at q (whole_value 0 k))
     (sym (value_quotient (falling_value cs (whole_value 0 k)) (whole_value 0 (pos (unsigned_abs d))) (value_at q (whole_value 0 k)) (nat_ne (unsigned_abs d) (positive-size d h.positive))
-    (value_mul_comm 0 (value_at q (whole_value 0 k)) (whole_value 0 (pos (unsigned_abs d))) ∙ ap (λ (z : ℤ). whole_value 0 z *ᵛ value_at q (whole_value 0 k)) (size-is d h.positive) ∙ sym (h.value (whole_value 0 k)))))
+    (value_mul_comm 0 (value_at q (whole_value 0 k)) (whole_value 0 (pos (unsigned_abs d))) ∙ ap (λ (z : ℤ). whole_value 0 z *ᵛ value_at q (whole_value 0 k)) (size-is d h.positive) ∙ sym (falling-common q cs d h (whole_value 0 k)))))
     (worth-canonical cs (unsigned_abs d) k (positive-size d h.positive))
 
 pub closed-canonical : (f h : Tree) (p q lent-p lent-q : List Rat) (cs lent-cs : List ℤ) (d a : ℤ) → IsPolynomial f → ((k : ℤ) → Worth (val f (pos 0) k) (value_at p (whole_value 0 k)))

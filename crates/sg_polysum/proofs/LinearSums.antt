@@ -22,11 +22,11 @@ use Rattle.sg_spec.specs.Tree.{Tree}
 use Rattle.sg_spec.proofs.Worth.{total_worth, whole_value-before}
 use Rattle.sg_polysum.proofs.Canonical.{worth-canonical}
 use Rattle.sg_polysum.proofs.Closing.{plain-sums, plain-prods, plain-start, over-canonical, form-is}
-use Rattle.sg_polysum.proofs.CommonDenominator.{divisor-denominator, divisor-each}
-use Rattle.sg_polysum.proofs.LinearTrees.{whole_value-add}
-use Rattle.sg_num.proofs.WholeSteps.{whole_value-mul}
+use Rattle.sg_canonical.proofs.CommonDenominator.{divisor-denominator, divisor-each}
+use Rattle.sg_num.proofs.WholeSteps.{whole_value-add, whole_value-mul}
 use Rattle.sg_polysum.proofs.Wholes.{whole_value-neg}
-use Rattle.sg_polysum.specs.Linear.{IsSmall, linear_value, IsLinear, IsSummed}
+use Rattle.sg_canonical.specs.Whole.{IsSmall}
+use Rattle.sg_polysum.specs.Linear.{linear_value, IsLinear, IsSummed}
 use Rattle.sg_polysum.specs.Terms.{falling_value}
 
 -- ---- Sizes

@@ -6,11 +6,10 @@ use Rattle.std.proofs.Common.{◌≡◌, ◌⊎◌, inl, inr, ℕ, zero, suc, �
 use Rattle.std.proofs.lemmas.Int.{ints}
 use Rattle.std.proofs.Math.Nat.{pow-succ', one-le-mul, one-le-pow, mul-le-mul}
 use Rattle.sg_algebra.proofs.Ring.{pow}
-use Rattle.sg_algebra.proofs.Rational.{whole_value, fraction_value-add, fraction_value-whole}
+use Rattle.sg_algebra.proofs.Rational.{whole_value}
 use Rattle.sg_algebra.proofs.Solver.{ring, reads}
-use Rattle.sg_algebra.proofs.Value.{Value, ◌+ᵛ◌, ◌*ᵛ◌, neg_value, zero_value, one_value, fraction_value}
+use Rattle.sg_algebra.proofs.Value.{Value, ◌+ᵛ◌, ◌*ᵛ◌, neg_value, zero_value, one_value}
 use Rattle.sg_algebra.proofs.ValueField.{ValueR}
-use Rattle.sg_algebra.proofs.Whole.{mul-oneℤ}
 use Rattle.sg_spec.specs.Fraction.{whole}
 use Rattle.sg_spec.specs.Limits.{degrees}
 use Rattle.sg_spec.specs.Polynomials.{IsPolynomial, weight}
@@ -18,15 +17,11 @@ use Rattle.sg_spec.specs.Tree.{Tree, numeral, here, param, add, neg, mul, div, p
 use Rattle.sg_spec.specs.Value.{val}
 use Rattle.sg_spec.proofs.Values.{val-proper}
 use Rattle.sg_spec.proofs.Worth.{Worth, worth_cong, worth-sum, worth-product, worth-opposite, worth-power, worth-whole}
+use Rattle.sg_num.proofs.WholeSteps.{whole_value-add}
 use Rattle.sg_polysum.proofs.Slopes.{power-first}
 use Rattle.sg_polysum.proofs.Trees.{plain-value}
 use Rattle.sg_polysum.proofs.Wholes.{whole_value-neg}
 use Rattle.sg_polysum.specs.Linear.{linear_size, linear_value, IsLinear}
-
-pub whole_value-add : (m n : ℤ) → whole_value 0 (m +ℤ n) ≡ whole_value 0 m +ᵛ whole_value 0 n
-whole_value-add m n =
-    sym (fraction_value-whole (m +ℤ n)) ∙ ap₂ (λ u v. fraction_value (u +ℤ v) 1) (sym (mul-oneℤ m)) (sym (mul-oneℤ n)) ∙ fraction_value-add m n 1 1 (omega arith) (omega arith)
-    ∙ ap₂ ◌+ᵛ◌ (fraction_value-whole m) (fraction_value-whole n)
 
 pub weight_positive : (t : Tree) → 1 ≤ weight t
 weight_positive (numeral c) = omega arith

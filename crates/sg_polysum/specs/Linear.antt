@@ -1,5 +1,4 @@
 -- Polynomials of degree at most one with whole coefficients of small sizes, whose sums need no step of fractions.
---   IsSmall c           the size of c is at most 2^32
 --   linear_size c s     the sizes of the constant c and the slope s together
 --   linear_value c s x  c + s x
 --   IsLinear t c s      the tree has these values everywhere, its coefficients weigh no more than it, and of degree 0 it has no slope
@@ -13,9 +12,6 @@ use Rattle.sg_spec.specs.Tree.{Tree}
 use Rattle.sg_spec.specs.Value.{val}
 use Rattle.sg_spec.proofs.Worth.{Worth}
 use Rattle.sg_polysum.specs.Terms.{falling_value}
-
-abbrev pub IsSmall : ℤ → Type 0
-IsSmall c = unsigned_abs c ≤ 4294967296
 
 abbrev pub linear_size : ℤ → ℤ → ℕ
 linear_size c s = unsigned_abs c + unsigned_abs s

@@ -8,12 +8,12 @@ ghost use Rattle.sg_spec.specs.Polynomials.{IsPolynomial, IsCanonical, weight};
 ghost use Rattle.sg_spec.specs.Printing.{InForm};
 
 use crate::coefficients::collected;
-use crate::common::over_common;
 use crate::linear::Linear;
 use crate::polynomial::trimmed;
 use crate::reading::linear;
 use crate::sums::summed;
 use crate::terms::canonical_tree;
+use sg_canonical::over_common;
 use sg_expr::Expr;
 use sg_num::Stop;
 use std::alloc::Global;
@@ -66,6 +66,6 @@ fn summed_by_telescoping(alloc: Global, f: &Expr, a: i64) -> Result<Expr, Stop>
     let p = collected(alloc, f)?;
     let q = summed(alloc, trimmed(p.as_slice()), a)?;
     let all = over_common(alloc, q.as_slice())?;
-    let h = canonical_tree(alloc, all.coefficients.as_slice(), all.denominator)?;
+    let h = canonical_tree(alloc, all.numbers.as_slice(), all.denominator)?;
     Ok(h)
 }

@@ -3,14 +3,12 @@
 
 mod closed;
 mod coefficients;
-mod common;
 mod linear;
 mod polynomial;
 mod reading;
 mod summing;
 mod sums;
 mod terms;
-mod whole;
 
 pub use closed::closed_form;
 

@@ -1,7 +1,8 @@
 ghost use Rattle.std.specs.Prelude.{◌≡◌, ◌≤◌, ◌%◌, ◌∷◌, [], pos, ◌<ℤ◌, ◌+ℤ◌, ◌-ℤ◌, ◌*ℤ◌, unsigned_abs, IfOk, IfErr, IfSome, IsNone};
 ghost use Rattle.sg_expr.specs.Tree.{tree_of};
 ghost use Rattle.sg_num.specs.Stopped.{IsMemory};
-ghost use Rattle.sg_polysum.specs.Linear.{IsSmall, IsSummed};
+ghost use Rattle.sg_canonical.specs.Whole.{IsSmall};
+ghost use Rattle.sg_polysum.specs.Linear.{IsSummed};
 ghost use Rattle.sg_spec.specs.Polynomials.{canonical};
 
 use crate::linear::{Linear, multiplied, plus};

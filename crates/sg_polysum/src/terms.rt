@@ -2,12 +2,12 @@ ghost use Rattle.std.specs.Prelude.{◌≡◌, ◌≢◌, pos, ◌<ℤ◌, ◌*�
 ghost use Rattle.sg_expr.specs.Tree.{tree_of};
 ghost use Rattle.sg_algebra.specs.Coefficients.{Each};
 ghost use Rattle.sg_num.specs.Stopped.{IsMemory, KeepsWideStep};
-ghost use Rattle.sg_polysum.specs.Linear.{IsSmall};
+ghost use Rattle.sg_canonical.specs.Whole.{IsSmall};
 ghost use Rattle.sg_polysum.specs.Terms.{term};
 ghost use Rattle.sg_spec.specs.Tree.{numeral, add, neg, div};
 ghost use Rattle.sg_spec.specs.Polynomials.{variable_power, monomial, with_term, with_terms, numerator, leads_below_zero, canonical};
 
-use crate::whole::{opposite, opposites};
+use sg_canonical::{opposite, opposites};
 use sg_expr::Expr;
 use sg_num::Stop;
 use std::alloc::{AllocError, Global};

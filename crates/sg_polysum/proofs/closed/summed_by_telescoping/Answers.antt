@@ -18,7 +18,7 @@ returns-clause-closed c =
     let worth : (k : ℤ) → Worth (val (tree_of c.args.f.now) (pos 0) k) (value_at c.trimmed.result.now (whole_value 0 k)) = λ k.
     subst (λ (v : Value 0). Worth (val (tree_of c.args.f.now) (pos 0) k) v)
     (sym (c.trimmed.ensures (whole_value 0 k) ∙ ap (λ p. value_at p (whole_value 0 k)) c.as_slice.ensures.value)) (c.in_ok-p.ensures.value k) in
-    closed-canonical (tree_of c.args.f.now) (tree_of c.in_ok-h.h) c.trimmed.result.now c.in_ok-q.q c.trimmed.result.now c.as_slice-2.result.now c.in_ok-all.all.coefficients c.as_slice-3.result.now c.in_ok-all.all.denominator c.args.a
+    closed-canonical (tree_of c.args.f.now) (tree_of c.in_ok-h.h) c.trimmed.result.now c.in_ok-q.q c.trimmed.result.now c.as_slice-2.result.now c.in_ok-all.all.numbers c.as_slice-3.result.now c.in_ok-all.all.denominator c.args.a
     c.requires worth refl c.in_ok-q.ensures.step
     (ap (λ z. value_at c.in_ok-q.q (whole_value 0 (z -ℤ pos 1))) (sym (to_z-of_z w64 c.args.a fits-a)) ∙ c.in_ok-q.ensures.start) c.as_slice-2.ensures c.in_ok-all.ensures.common c.as_slice-3.ensures
     (c.in_ok-h.ensures.tree ∙ ap (λ z. canonical c.as_slice-3.result.now (unsigned_abs z)) (to_z-of_z w128 c.in_ok-all.all.denominator fits))

@@ -1,7 +1,7 @@
 use Rattle.std.proofs.Common.{FitsSigned, ◌≡◌, pos, ◌+ℤ◌, ◌-ℤ◌, ◌*ℤ◌, subst, sym, ap, ◌∙◌, rules}
 use Rattle.std.proofs.lemmas.Int.{to_z-of_z}
 use Rattle.std.specs.Int.{w128}
-use Rattle.sg_polysum.specs.Linear.{IsSmall}
+use Rattle.sg_canonical.specs.Whole.{IsSmall}
 use Rattle.sg_polysum.proofs.LinearSums.{lowest-small}
 use Rattle.sg_polysum.proofs.summing.lowest.Goals as goal
 

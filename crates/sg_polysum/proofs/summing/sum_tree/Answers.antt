@@ -2,7 +2,7 @@ use Rattle.std.proofs.Common.{FitsSigned, ◌≡◌, ◌+ℤ◌, unsigned_abs, �
 use Rattle.std.proofs.lemmas.Int.{ints, to_z-of_z}
 use Rattle.std.specs.Int.{w128}
 use Rattle.sg_algebra.specs.Coefficients.{Each}
-use Rattle.sg_polysum.specs.Linear.{IsSmall}
+use Rattle.sg_canonical.specs.Whole.{IsSmall}
 use Rattle.sg_polysum.proofs.summing.sum_tree.Goals as goal
 
 pub returns-in_err-h-clause-memory : goal.returns-in_err-h-clause-memory

@@ -1,6 +1,6 @@
 use Rattle.std.proofs.Common.{subst, sym, ◌∙◌, rules}
 use Rattle.sg_algebra.specs.Coefficients.{Each}
-use Rattle.sg_polysum.specs.Linear.{IsSmall}
+use Rattle.sg_canonical.specs.Whole.{IsSmall}
 use Rattle.sg_polysum.proofs.LinearSums.{each-opposites}
 use Rattle.sg_polysum.proofs.terms.canonical_tree.Goals as goal
 

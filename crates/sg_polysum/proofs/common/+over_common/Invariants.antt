@@ -1,5 +1,0 @@
-use Rattle.std.proofs.Common.{length}
-use Rattle.sg_polysum.proofs.common.+over_common.Given as goal
-
-abbrev pub decreases-over_common : goal.decreases-over_common
-decreases-over_common l = length l.p.now

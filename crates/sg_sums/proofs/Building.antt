@@ -97,16 +97,6 @@ pub each_push : {X : Type 0} (P : X → Type 0) (xs : List X) (x : X) → Each P
 each_push P [] x e h = (h, tt)
 each_push P (y ∷ xs) x e h = (e.0, each_push P xs x e.1 h)
 
-weaker : {X : Type 0} (fs : List (List X)) (old new : ℕ) → old ≤ new → Each (λ f. length f ≤ old) fs → Each (λ f. length f ≤ new) fs
-weaker [] old new l e = tt
-weaker (f ∷ fs) old new l e = (omega (arith, e.0), weaker fs old new l e.1)
-
-pub longest_next : {X : Type 0} (fs : List (List X)) (i : ℕ) (x : List X) (old new : ℕ) → Each (λ f. length f ≤ old) (take i fs) → i < length fs → x ≡ get_or fs i x → old ≤ new → length x ≤ new → Each (λ f. length f ≤ new) (take (i + 1) fs)
-longest_next fs i x old new e l h o n = rw (take_next fs i x l h) (each_push (λ f. length f ≤ new) (take i fs) x (weaker (take i fs) old new o e) n)
-
-pub longest_whole : {X : Type 0} (fs : List (List X)) (i n : ℕ) → Each (λ f. length f ≤ n) (take i fs) → i ≡ length fs → Each (λ f. length f ≤ n) fs
-longest_whole fs i n e h = rw (take_whole fs i h) at e
-
 -- ---- Sums along a list
 module _ {C R : Ring} (B : Difference C R) where
   open B use {κ}

@@ -1,8 +1,8 @@
 -- The whole recursion: from the unit rows to all solutions.
-use Rattle.std.proofs.Common.{◌≡◌, ℕ, suc, ◌+◌, ◌≤◌, refl, sym, ◌∙◌, subst, List, [], ◌∷◌, ◌++◌, map, length, arith}
+use Rattle.std.proofs.Common.{◌≡◌, ℕ, suc, ◌+◌, refl, sym, ◌∙◌, subst, List, [], ◌∷◌, ◌++◌, map, length, arith}
 use Rattle.sg_algebra.specs.Ring.{Ring}
 use Rattle.sg_algebra.specs.Coefficients.{Each}
-use Rattle.sg_algebra.proofs.Lists.{length_map, each_to}
+use Rattle.sg_algebra.proofs.Lists.{each_to}
 use Rattle.sg_algebra.proofs.PolynomialRing.{PolyR}
 use Rattle.sg_algebra.proofs.Degree.{Below, below_up}
 use Rattle.sg_algebra.proofs.Place.{Pairwise}
@@ -13,14 +13,13 @@ use Rattle.sg_algebra.proofs.Embedding.{numeral_ne}
 use Rattle.sg_tower_theory.proofs.Difference.{trivial, total_pairwise, Solves}
 use Rattle.sg_tower_theory.proofs.Above.{above}
 use Rattle.sg_tower_theory.proofs.Degrees.{IsNew, degree_bound}
-use Rattle.sg_tower_theory.proofs.Ends.{below_length}
 use Rattle.sg_tower_theory.proofs.Slices.{state_sound, state_complete, pairwise_each, pairwise_to, differences}
 use Rattle.sg_tower_theory.proofs.PowerSlices.{below_space}
 use Rattle.sg_tower_theory.proofs.Formal.{Element, elements, shifted, IsIndependent, only_constants}
 use Rattle.sg_matrix.specs.declared.solution.Solution.{Solution}
 use Rattle.sg_sums.specs.declared.partial.Partial.{Partial}
 use Rattle.sg_tower.specs.Elements.{Reading, raised, consts_of, value_of, AllSolve, IsComplete}
-use Rattle.sg_sums.specs.Polynomials.{partial_consts, partial_value, partial_left, State, StartRows, StartFrom, IsStartRow, IsFinished}
+use Rattle.sg_sums.specs.Polynomials.{partial_consts, partial_value, partial_left, ZeroFrom, State, StartRows, StartFrom, IsStartRow, IsFinished}
 use Rattle.sg_tower_theory.proofs.Starting.{Starts, state_start}
 
 module _ {d : ℕ} {E : Type 0} (ρ : Reading d E) {K : Type 0} (v : K → Value d) (β : E) (fs : List (List E)) where
@@ -45,7 +44,7 @@ module _ {d : ℕ} {E : Type 0} (ρ : Reading d E) {K : Type 0} (v : K → Value
     begun (suc k) xs ws s.1,
   )
 
-  pub state_begin : (n : ℕ) (rows : List (Partial K E)) → IsIndependent ρ.formal → IsNew (shifted ρ.formal) (ρ.of β) → Each (λ p. length p ≤ n) fs → StartRows ρ v β fs rows → State ρ v β fs (n + 1) rows
+  pub state_begin : (n : ℕ) (rows : List (Partial K E)) → IsIndependent ρ.formal → IsNew (shifted ρ.formal) (ρ.of β) → Each (λ p. ZeroFrom ρ p n) fs → StartRows ρ v β fs rows → State ρ v β fs (n + 1) rows
   state_begin n rows h new e s = subst (λ (k : ℕ). State ρ v β fs k rows) (up n)
       (state_start (above (shifted ρ.formal) (ρ.of β)) (differences (above (shifted ρ.formal) (ρ.of β))) (map ρ.of) fs (partial_consts ρ v) (partial_value ρ v) (partial_left ρ v) (Below R (suc n)) (below_space (shifted ρ.formal) (ρ.of β) (suc n)) rows (begun 0 fs rows s)
       (each_to (λ p. Below R n (map ρ.of p)) (λ p. Below R (suc n) (map ρ.of p)) fs (λ p b. below_up R n (suc n) (map ρ.of p) (omega arith) b) shorts)
@@ -55,7 +54,7 @@ module _ {d : ℕ} {E : Type 0} (ρ : Reading d E) {K : Type 0} (v : K → Value
       up n = omega arith
 
       shorts : Each (λ p. Below R n (map ρ.of p)) fs
-      shorts = each_to (λ p. length p ≤ n) (λ p. Below R n (map ρ.of p)) fs (λ p l. below_up R (length (map ρ.of p)) n (map ρ.of p) (rw (length_map ρ.of p) l) (below_length R (map ρ.of p))) e
+      shorts = each_to (λ p. ZeroFrom ρ p n) (λ p. Below R n (map ρ.of p)) fs (λ p z. record { none_from = z }) e
 
   -- no power at all
   none : (x : List (Element ρ.formal)) → Below R 0 x → x ≋ []

@@ -1,7 +1,8 @@
 -- Which polynomials in t are zero, equal, constant.
-use Rattle.std.proofs.Common.{◌≡◌, ℕ, zero, suc, ◌+◌, ◌<◌, ◌≤◌, sym, subst, List, [], ◌∷◌, map, length, get_or, ◌⊎◌, inl, inr, arith, Option, Some, None, IfSome, IfNone, neg_ℤ}
+use Rattle.std.proofs.Common.{◌≡◌, ℕ, zero, suc, ◌+◌, ◌<◌, ◌≤◌, sym, subst, List, [], ◌∷◌, map, length, take, get_or, ◌⊎◌, inl, inr, arith, Option, Some, None, IfSome, IfNone, neg_ℤ}
 use Rattle.sg_algebra.specs.Ring.{Ring}
-use Rattle.sg_algebra.specs.Coefficients.{coef}
+use Rattle.sg_algebra.specs.Coefficients.{coef, Each}
+use Rattle.sg_algebra.proofs.Lists.{each_to}
 use Rattle.sg_algebra.proofs.Ring.{eq_of_sub}
 use Rattle.sg_algebra.proofs.PolynomialRing.{PolyR}
 use Rattle.sg_algebra.proofs.Value.{Value}
@@ -12,7 +13,7 @@ use Rattle.sg_tower_theory.proofs.Flat.{unit_in}
 use Rattle.sg_tower.specs.Terms.{IsInverse, IsNoUnit}
 use Rattle.sg_tower.specs.Elements.{Reading, raised, Same, IsZero, IsCopy, IsValue, IsConstant, IsDifference}
 use Rattle.sg_sums.specs.Polynomials.{at_place, ZeroFrom}
-use Rattle.sg_sums.proofs.Building.{at_read, at_past}
+use Rattle.sg_sums.proofs.Building.{at_read, at_past, each_push, take_next, take_whole}
 
 module _ {d : ℕ} {E : Type 0} (ρ : Reading d E) where
   abbrev R : Ring
@@ -45,6 +46,19 @@ module _ {d : ℕ} {E : Type 0} (ρ : Reading d E) where
       go : (k < i) ⊎ (i ≤ k) → at_place ρ p k ≈ O
       go (inl q) = h k a q
       go (inr q) = rw (at_past R ρ.of p k (omega arith)) rfl
+
+  pub zero_past : (p : List E) (n : ℕ) → length p ≤ n → ZeroFrom ρ p n
+  zero_past p n h i l = rw (at_past R ρ.of p i (omega arith)) rfl
+
+  later : (fs : List (List E)) (old new : ℕ) → old ≤ new → Each (λ f. ZeroFrom ρ f old) fs → Each (λ f. ZeroFrom ρ f new) fs
+  later fs old new l e = each_to (λ f. ZeroFrom ρ f old) (λ f. ZeroFrom ρ f new) fs (λ f z i k. z i (omega arith)) e
+
+  pub zeros_next : (fs : List (List E)) (i : ℕ) (x q : List E) (old own new : ℕ) → Each (λ f. ZeroFrom ρ f old) (take i fs) → i < length fs → x ≡ get_or fs i x → q ≡ x → ZeroFrom ρ q own → old ≤ new → own ≤ new
+      → Each (λ f. ZeroFrom ρ f new) (take (i + 1) fs)
+  zeros_next fs i x q old own new e l h s z o n = rw (take_next fs i x l h) (each_push (λ f. ZeroFrom ρ f new) (take i fs) x (later (take i fs) old new o e) (λ j k. subst (λ (p : List E). ZeroFrom ρ p own) s z j (omega arith)))
+
+  pub zeros_whole : (fs : List (List E)) (i n : ℕ) → Each (λ f. ZeroFrom ρ f n) (take i fs) → i ≡ length fs → Each (λ f. ZeroFrom ρ f n) fs
+  zeros_whole fs i n e h = rw (take_whole fs i h) at e
 
   module _ (β : E) where
     pub zero_poly : (p : List E) → ZeroFrom ρ p 0 → IsZero (raised ρ β) p

@@ -46,15 +46,28 @@ impl<T: Tower> SumExt<T> {
     }
 }
 
-// How many coefficients the longest has.
-fn longest<E: Drop>(fs: &Row<Poly1<E>>) -> usize
-    ensures { Each (λ f. length f ≤ result) fs.now }
+// How many coefficients of each polynomial may be other than 0: one more than the greatest degree.
+fn greatest_length<T: Tower>(below: &T, fs: &Row<Poly1<T::Elem>>) -> usize
+    ensures { Each (λ f. ZeroFrom (T.reading T.K.vars T.K.val below.now) f result) fs.now }
 {
     let mut most = 0;
     for i in 0..fs.len() {
-        most = fs.get(i).row().len().max(most);
+        let own = length_without_zeros(below, fs.get(i).row());
+        most = own.max(most);
     }
     most
+}
+
+// The least place from which on all coefficients are 0.
+fn length_without_zeros<T: Tower>(below: &T, p: &Row<T::Elem>) -> usize
+    ensures { ZeroFrom (T.reading T.K.vars T.K.val below.now) p.now result }
+{
+    for n in 0..p.len() {
+        if zero_from(below, p, n) {
+            return n;
+        }
+    }
+    p.len()
 }
 
 // Whether all coefficients from `n` on are 0.
@@ -204,7 +217,7 @@ impl<T: Tower> Tower for SumExt<T> {
         alloc: Global,
         fs: &Row<Poly1<T::Elem>>,
     ) -> Result<Row<Solution<T::K, Poly1<T::Elem>>>, Stop> {
-        let degree = longest(fs);
+        let degree = greatest_length(&self.below, fs);
         let first = start(alloc, &self.below, &self.beta, fs)?;
         let mut rows = lowered(alloc, &self.below, &self.beta, fs, degree, &first)?;
         for i in 0..degree {

@@ -5,7 +5,7 @@
 --   basis-none          where no solution has a constant other than 0 there is no antidifference
 --   some-then, none-then    what follows of an answer
 --   solved-first, solved-later, none-later    the first solution, and the others
---   found-sized, found-some, found-none    the solutions of the equation with one right side
+--   one-item            the right sides, as a list of one
 use Rattle.std.proofs.Common.{◌≡◌, ℕ, zero, suc, ◌<◌, refl, sym, ap, ◌∙◌, subst, List, [], ◌∷◌, ◌++◌, length, map, slice_index_or, Option, Some, None, IfSome, IfNone, arith}
 use Rattle.std.proofs.lemmas.List.{length-map}
 use Rattle.sg_algebra.specs.Coefficients.{Each}
@@ -17,7 +17,7 @@ use Rattle.sg_num.specs.Value.{number}
 use Rattle.sg_num.specs.declared.rat.Rat.{Rat}
 use Rattle.sg_first_order.specs.Solutions.{Pair, pair, Solves, IsBasis}
 use Rattle.sg_ratfun.specs.Fractions.{ratio}
-use Rattle.sg_closing.specs.Antidifferences.{Antidifference, IsSolution}
+use Rattle.sg_closing.specs.Antidifferences.{Antidifference, HasNoConstant, IsSolution}
 use Rattle.sg_closing.proofs.Constants.{divided, no-constant}
 
 abbrev pub Found : Type 0
@@ -46,12 +46,12 @@ basis-solves a x fs rows e f b =
     each [] h = tt
     each (s ∷ rows) h = (h.0, each rows h.1)
 
-pub basis-none : (a x : Value 1) (fs : List (Value 1)) (rows : List Found) → a ≡ one_value → fs ≡ x ∷ [] → IsBasis a fs (map pair_of rows) → Each (λ s. coefficient (map number s.coeffs) 0 ≡ zero_value) rows
+pub basis-none : (a x : Value 1) (fs : List (Value 1)) (rows : List Found) → a ≡ one_value → fs ≡ x ∷ [] → IsBasis a fs (map pair_of rows) → Each HasNoConstant rows
     → (g : Value 1) → ¬ Antidifference g x
 basis-none a x fs rows e f b h =
     no-constant x (map pair_of rows) (subst (λ (a : Value 1). IsBasis a (x ∷ []) (map pair_of rows)) e (subst (λ (fs : List (Value 1)). IsBasis a fs (map pair_of rows)) f b)) (each rows h)
   where
-    each : (rows : List Found) → Each (λ s. coefficient (map number s.coeffs) 0 ≡ zero_value) rows → Each (λ p. coefficient p.consts 0 ≡ zero_value) (map pair_of rows)
+    each : (rows : List Found) → Each HasNoConstant rows → Each (λ p. coefficient p.consts 0 ≡ zero_value) (map pair_of rows)
     each [] h = tt
     each (s ∷ rows) h = (h.0, each rows h.1)
 
@@ -86,27 +86,12 @@ module _ (solutions rest : List Found) (s : Found) (is : solutions ≡ s ∷ res
       later : (g : List Rat × List Rat) → ((x : Value 1) → Each (IsSolution x) rest → Antidifference (ratio number g) x) → (x : Value 1) → Each (IsSolution x) solutions → Antidifference (ratio number g) x
       later g k x each = let all : Each (IsSolution x) (s ∷ rest) = subst (Each (IsSolution x)) is each in k x all.1
 
-  pub none-later : (o : Option (List Rat × List Rat)) → number c ≡ zero_value → IfNone o (Each (λ s. coefficient (map number s.coeffs) 0 ≡ zero_value) rest) → IfNone o (Each (λ s. coefficient (map number s.coeffs) 0 ≡ zero_value) solutions)
+  pub none-later : (o : Option (List Rat × List Rat)) → number c ≡ zero_value → IfNone o (Each HasNoConstant rest) → IfNone o (Each HasNoConstant solutions)
   none-later o z h =
-      none-then o (Each (λ s. coefficient (map number s.coeffs) 0 ≡ zero_value) rest) (Each (λ s. coefficient (map number s.coeffs) 0 ≡ zero_value) solutions)
-      (λ k. subst (Each (λ s. coefficient (map number s.coeffs) 0 ≡ zero_value)) (sym is) (first-constant s.coeffs c size first ∙ z, k)) h
+      none-then o (Each HasNoConstant rest) (Each HasNoConstant solutions)
+      (λ k. subst (Each HasNoConstant) (sym is) (first-constant s.coeffs c size first ∙ z, k)) h
 
 -- ---- The equation with one right side
 
 pub one-item : (old new : List (List Rat × List Rat)) (copy r : List Rat × List Rat) → old ≡ [] → new ≡ old ++ (copy ∷ []) → ratio number copy ≡ ratio number r → map (ratio number) new ≡ ratio number r ∷ []
 one-item old new copy r e h k = ap (map (ratio number)) (h ∙ ap (λ (l : List (List Rat × List Rat)). l ++ (copy ∷ [])) e) ∙ ap (λ (v : Value 1). v ∷ []) k
-
-module _ (one r : List Rat × List Rat) (fs : List (List Rat × List Rat)) (basis : List Found) (e : ratio number one ≡ one_value) (f : map (ratio number) fs ≡ ratio number r ∷ [])
-    (b : IsBasis (ratio number one) (map (ratio number) fs) (map pair_of basis)) where
-  pub found-sized : (k : ℕ) (d : Found) → k < length basis → length (slice_index_or basis k d).coeffs ≡ 1
-  found-sized = basis-sized (ratio number one) (map (ratio number) fs) basis (ap length f) b
-
-  pub found-some : (o : Option (List Rat × List Rat)) → IfSome o (λ g. (x : Value 1) → Each (IsSolution x) basis → Antidifference (ratio number g) x) → IfSome o (λ g. Antidifference (ratio number g) (ratio number r))
-  found-some o h =
-      some-then o (λ g. (x : Value 1) → Each (IsSolution x) basis → Antidifference (ratio number g) x) (λ g. Antidifference (ratio number g) (ratio number r))
-      (λ g k. k (ratio number r) (basis-solves (ratio number one) (ratio number r) (map (ratio number) fs) basis e f b)) h
-
-  pub found-none : (o : Option (List Rat × List Rat)) → IfNone o (Each (λ s. coefficient (map number s.coeffs) 0 ≡ zero_value) basis) → IfNone o ((g : Value 1) → ¬ Antidifference g (ratio number r))
-  found-none o h =
-      none-then o (Each (λ s. coefficient (map number s.coeffs) 0 ≡ zero_value) basis) ((g : Value 1) → ¬ Antidifference g (ratio number r))
-      (basis-none (ratio number one) (ratio number r) (map (ratio number) fs) basis e f b) h

@@ -20,7 +20,7 @@ use std::alloc::Global;
 /// common divisor of positive degree. They are looked for at values of the coefficients: whole roots are split off, whose
 /// differences are shifts, and what is left is taken by an elimination (Abramov 1971; the resultant in m would serve as
 /// well). Over a field with variables each is confirmed by a greatest common divisor. It stops at a kept step that doesn't
-/// fit or because it is out of memory; the latter also where more than 2^20 numbers would be tried.
+/// fit or because it is out of memory.
 pub fn spread<F: Field>(alloc: Global, a: &Poly<F>, b: &Poly<F>) -> Result<Row<i128>, Stop>
     requires left { ¬ (poly (map F.val a.now) ≡ zero_polynomial) }
     requires right { ¬ (poly (map F.val b.now) ≡ zero_polynomial) }

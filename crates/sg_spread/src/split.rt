@@ -9,6 +9,7 @@ ghost use Rattle.sg_spread.specs.Splits.{product_of, AreAllRoots};
 
 use sg_num::{Rat, Row, Stop, whole_roots};
 use sg_poly::Poly;
+use sg_roots::far_roots;
 use std::alloc::Global;
 
 // Roots with their multiplicities, and what is left when they are split off.
@@ -38,15 +39,22 @@ pub(crate) fn split(alloc: Global, p: &Poly<Rat>) -> Result<Parts, Stop>
     Ok(left)
 }
 
-/// The whole roots of a polynomial other than 0, in ascending order.
+/// The whole roots of a polynomial other than 0, in ascending order: numbers are tried where few have to be, and else the
+/// roots are found by bisecting.
 pub(crate) fn roots_of(alloc: Global, p: &Poly<Rat>) -> Result<Row<i128>, Stop>
     requires { ¬ (polynomial number p.now ≡ zero_polynomial) }
     ensures ascending { IfOk result (AllPairs ◌<ℤ◌) }
     ensures roots { IfOk result (λ r. (m : ℤ) → Contains r m ↔ IsRoot (map number p.now) m) }
     ensures wide { IfErr result KeepsWideStep }
 {
-    let r = whole_roots(alloc, p.coeffs())?;
-    Ok(r)
+    match whole_roots(alloc, p.coeffs()) {
+        Ok(r) => Ok(r),
+        Err(Stop::Memory(_)) => {
+            let r = far_roots(alloc, p.coeffs())?;
+            Ok(r)
+        }
+        Err(stop) => Err(stop),
+    }
 }
 
 // Each of the numbers split off once, if it is a root of what is left; the first is one where all of them are.

@@ -1,35 +1,37 @@
 use crate::spread;
-use sg_num::{Rat, Row, Stop};
+use sg_num::{Field, Rat, Row, Stop};
 use sg_poly::Poly;
+use sg_ratfun::RatFun;
 use std::alloc::Global;
 
-// The polynomial with these coefficients over `den`.
-fn over(alloc: Global, list: &[i128], den: i128) -> Result<Poly<Rat>, Stop> {
+// The polynomial with these whole coefficients.
+fn whole(alloc: Global, list: &[i128]) -> Result<Poly<Rat>, Stop> {
     let mut row = Row::new(alloc);
     for n in list {
-        if let Some(c) = Rat::new(*n, den) {
-            row.push(c)?;
-        }
+        row.push(Rat::whole(*n))?;
     }
-    let p = Poly::from_coeffs(alloc, row)?;
-    Ok(p)
+    Poly::from_coeffs(alloc, row)
 }
 
-// The shifts of two polynomials with whole coefficients; none where one of them is 0.
-fn shifts(alloc: Global, a: &[i128], b: &[i128]) -> Result<Row<i128>, Stop> {
-    let a = over(alloc, a, 1)?;
-    let b = over(alloc, b, 1)?;
+// The shifts; none where one of the two is 0.
+fn shifts<F: Field>(alloc: Global, a: &Poly<F>, b: &Poly<F>) -> Result<Row<i128>, Stop> {
     if a.is_zero() || b.is_zero() {
         return Ok(Row::new(alloc));
     }
-    let r = spread(alloc, &a, &b)?;
-    Ok(r)
+    spread(alloc, a, b)
+}
+
+fn are(alloc: Global, a: &[i128], b: &[i128], want: &[i128]) -> Result<bool, Stop> {
+    let a = whole(alloc, a)?;
+    let b = whole(alloc, b)?;
+    let r = shifts(alloc, &a, &b)?;
+    Ok(r.as_slice() == want)
 }
 
 // The shifts were found by hand, from the roots.
 #[test]
 fn finds_known_shifts(rt: HostRuntime) {
-    let cases: [(&[i128], &[i128], &[i128]); 16] = [
+    let cases: [(&[i128], &[i128], &[i128]); 19] = [
         (&[0, 1], &[3, 1], &[-3]),
         (&[0, -1, 1], &[0, 1], &[-1, 0]),
         (&[0, 1], &[0, -1, 1], &[0, 1]),
@@ -100,49 +102,145 @@ fn finds_known_shifts(rt: HostRuntime) {
         ),
         (&[0, 0, 0, 4, 4, 1], &[-25, 15, 9, 1], &[-5, -3, 1, 3]),
         (&[0, 1, 0, 2, 0, 1], &[4, 4, 5, 2, 1], &[]),
+        (&[-3000000, 1], &[5000000000, 1], &[-5003000000]),
+        (
+            &[
+                2999999999997000000000000,
+                -3000007999996999998000000,
+                8000005999998000001,
+                -6000000000001,
+                -1,
+                1,
+            ],
+            &[0, 1],
+            &[-1000001, -1000000, -999999, -1, 3000000],
+        ),
+        (&[1, 0, 1], &[1000000000001, -2000000, 1], &[1000000]),
     ];
     for (a, b, want) in cases {
-        let found = match shifts(rt.alloc(), a, b) {
-            Ok(r) => r.as_slice() == want,
-            Err(_) => false,
-        };
-        assert!(rt; found, "{a:?} {b:?}");
+        assert!(rt;
+            matches!(are(rt.alloc(), a, b, want), Ok(true)),
+            "{a:?} {b:?}"
+        );
     }
 }
 
-// The product of k + c over these numbers.
-fn product_of(alloc: Global, list: &[i128]) -> Result<Poly<Rat>, Stop> {
+// A factor q k - e n - c, by q, e and c.
+type Factor = (i128, i128, i128);
+
+// The product of these factors at n = 0.
+fn product(alloc: Global, factors: &[Factor]) -> Result<Poly<Rat>, Stop> {
     let mut p = Poly::one(alloc)?;
-    for c in list {
-        let factor = over(alloc, &[*c, 1], 1)?;
+    for (q, _, c) in factors {
+        let factor = whole(alloc, &[c.wrapping_neg(), *q])?;
         p = p.mul(alloc, &factor)?;
     }
     Ok(p)
 }
 
-// Whether the shifts of the products of k + c and k + e are exactly the differences c - e.
-fn are_differences(alloc: Global, left: &[i128], right: &[i128]) -> Result<bool, Stop> {
-    let a = product_of(alloc, left)?;
-    let b = product_of(alloc, right)?;
-    if a.is_zero() || b.is_zero() {
-        return Ok(false);
+// The product of these factors, over the fractions of polynomials in n.
+fn product_in_n(alloc: Global, factors: &[Factor]) -> Result<Poly<RatFun<Rat>>, Stop> {
+    let mut p = Poly::one(alloc)?;
+    for factor in factors {
+        let line = line_in_n(alloc, *factor)?;
+        p = p.mul(alloc, &line)?;
     }
-    let r = spread(alloc, &a, &b)?;
-    let all = left.iter().all(|c| right
-        .iter()
-        .all(|e| r.as_slice().contains(&c.wrapping_sub(*e))));
-    let only = r.as_slice().iter().all(|m| left
-        .iter()
-        .any(|c| right.iter().any(|e| c.wrapping_sub(*e) == *m)));
-    Ok(all && only)
+    Ok(p)
 }
 
-// Eight whole numbers from -200 to 200.
-fn drawn(state: &mut u32) -> [i128; 8] {
-    let mut list = [0i128; 8];
-    for n in list.iter_mut() {
+fn line_in_n(alloc: Global, factor: Factor) -> Result<Poly<RatFun<Rat>>, Stop> {
+    let (q, e, c) = factor;
+    let low = whole(alloc, &[c.wrapping_neg(), e.wrapping_neg()])?;
+    let high = whole(alloc, &[q])?;
+    let mut row = Row::new(alloc);
+    row.push(RatFun::from_poly(alloc, low)?)?;
+    row.push(RatFun::from_poly(alloc, high)?)?;
+    Poly::from_coeffs(alloc, row)
+}
+
+// The root of the second less that of the first, over a number, and that number; it is 0 where n is in the difference.
+fn difference(left: Factor, right: Factor) -> (i128, i128) {
+    let (q, e, c) = left;
+    let (p, f, d) = right;
+    if e.wrapping_mul(p) != f.wrapping_mul(q) {
+        return (1, 0);
+    }
+    let above = d.wrapping_mul(q).wrapping_sub(c.wrapping_mul(p));
+    (above, p.wrapping_mul(q))
+}
+
+// Whether the root of one of these is that of the factor and m.
+fn is_difference_to(left: Factor, right: &[Factor], m: i128) -> bool {
+    for factor in right {
+        let (above, below) = difference(left, *factor);
+        if above == below.wrapping_mul(m) {
+            return true;
+        }
+    }
+    false
+}
+
+// Whether a root on the right is one on the left and m.
+fn is_difference(left: &[Factor], right: &[Factor], m: i128) -> bool {
+    for factor in left {
+        if is_difference_to(*factor, right, m) {
+            return true;
+        }
+    }
+    false
+}
+
+// Whether all whole differences to the root of the factor are listed.
+fn has_differences_to(list: &[i128], left: Factor, right: &[Factor]) -> bool {
+    for factor in right {
+        let (above, below) = difference(left, *factor);
+        if let Some(m) = above.checked_div(below) {
+            if above == below.wrapping_mul(m) && !list.contains(&m) {
+                return false;
+            }
+        }
+    }
+    true
+}
+
+// Whether these are exactly the whole differences of roots.
+fn are_differences(list: &[i128], left: &[Factor], right: &[Factor]) -> bool {
+    for m in list {
+        if !is_difference(left, right, *m) {
+            return false;
+        }
+    }
+    for factor in left {
+        if !has_differences_to(list, *factor, right) {
+            return false;
+        }
+    }
+    true
+}
+
+fn finds(alloc: Global, left: &[Factor], right: &[Factor]) -> Result<bool, Stop> {
+    let a = product(alloc, left)?;
+    let b = product(alloc, right)?;
+    let r = shifts(alloc, &a, &b)?;
+    Ok(are_differences(r.as_slice(), left, right))
+}
+
+fn finds_in_n(alloc: Global, left: &[Factor], right: &[Factor]) -> Result<bool, Stop> {
+    let a = product_in_n(alloc, left)?;
+    let b = product_in_n(alloc, right)?;
+    let r = shifts(alloc, &a, &b)?;
+    Ok(are_differences(r.as_slice(), left, right))
+}
+
+// Eight factors, with q from 1 to `most`, e below `kinds` and c from -200 to 200.
+fn drawn(state: &mut u32, most: u32, kinds: u32) -> [Factor; 8] {
+    let mut list = [(1i128, 0i128, 0i128); 8];
+    for factor in list.iter_mut() {
         *state = state.wrapping_mul(1664525).wrapping_add(1013904223);
-        *n = (*state >> 16) as i128 % 401 - 200;
+        let c = (*state >> 16) as i128 % 401 - 200;
+        let q = (*state >> 8).checked_rem(most).unwrap_or(0) as i128 + 1;
+        let e = (*state >> 12).checked_rem(kinds).unwrap_or(0) as i128;
+        *factor = (q, e, c);
     }
     list
 }
@@ -150,16 +248,32 @@ fn drawn(state: &mut u32) -> [i128; 8] {
 #[test]
 fn finds_shifts_of_drawn_products(rt: HostRuntime) {
     let mut state = 5u32;
-    for count in [2, 3, 4, 5, 6, 7, 8, 8] {
-        let left = drawn(&mut state);
-        let right = drawn(&mut state);
+    for (count, most) in [(2, 1), (4, 3), (6, 1), (8, 1), (8, 3), (8, 3)] {
+        let left = drawn(&mut state, most, 1);
+        let right = drawn(&mut state, most, 1);
+        if count <= left.len() && count <= right.len() {
+            assert!(rt;
+                matches!(finds(rt.alloc(), &left[..count], &right[..count]), Ok(true)),
+                "{count}"
+            );
+        }
+    }
+}
+
+// Factors k - c and k - n - c.
+#[test]
+fn finds_shifts_of_drawn_products_in_n(rt: HostRuntime) {
+    let mut state = 7u32;
+    for count in [2, 3, 4, 5, 6, 8] {
+        let left = drawn(&mut state, 1, 2);
+        let right = drawn(&mut state, 1, 2);
         if count <= left.len() && count <= right.len() {
             assert!(rt;
                 matches!(
-                    are_differences(rt.alloc(), &left[..count], &right[..count]),
+                    finds_in_n(rt.alloc(), &left[..count], &right[..count]),
                     Ok(true)
                 ),
-                "{left:?} {right:?}"
+                "{count}"
             );
         }
     }

@@ -2,6 +2,3 @@ use Rattle.sg_spread.proofs.split.roots_of.Goals as goal
 
 pub whole_roots-requires : goal.whole_roots-requires
 whole_roots-requires c = rw c.coeffs.ensures.value c.requires
-
-pub returns-clause-roots : goal.returns-clause-roots
-returns-clause-roots c = λ m. rw c.coeffs.ensures.value at (c.in_ok-r.ensures.roots m)

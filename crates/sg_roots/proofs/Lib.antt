@@ -1,0 +1,9 @@
+pub mod Sizes
+pub mod Monotone
+pub mod Cuts
+pub mod Ranges
+pub mod Neighbours
+pub mod Bound
+pub mod Zeros
+pub mod Values
+pub mod Lowered

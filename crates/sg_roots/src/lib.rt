@@ -1,0 +1,12 @@
+//! The whole roots of polynomials over the fractions, however far from 0.
+#![tactic(auto)]
+
+mod differences;
+mod far;
+mod pieces;
+mod signs;
+
+pub use far::far_roots;
+
+#[cfg(test)]
+mod tests;

@@ -11,3 +11,4 @@ pub mod Bodies
 pub mod Starts
 pub mod Letters
 pub mod Soundness
+pub mod Collecting

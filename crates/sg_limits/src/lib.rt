@@ -3,6 +3,7 @@
 #![tactic(auto)]
 
 mod degrees;
+mod divisors;
 mod fault;
 mod inspection;
 mod lists;
@@ -11,6 +12,7 @@ mod sizes;
 mod start;
 mod walk;
 
+pub use divisors::{Divisor, divisor_parts, zero_parts};
 pub use fault::LimitFault;
 pub use inspection::{Facts, inspect};
 pub use start::start_of;

@@ -6,7 +6,7 @@ ghost use Rattle.sg_spec.specs.Shape.{is_polynomial_tree, is_divisor_tree};
 ghost use Rattle.sg_expr.specs.Tree.{tree_of};
 ghost use Rattle.sg_limits.specs.Counts.{AreInForm};
 
-use crate::{LimitFault, inspect, start_of};
+use crate::{Divisor, LimitFault, divisor_parts, inspect, start_of, zero_parts};
 use sg_expr::Expr;
 use sg_num::{Row, Stop};
 use std::alloc::{AllocError, Global};
@@ -312,5 +312,68 @@ fn starts_before_the_last_lower_limit(rt: HostRuntime) -> Result<(), Fail> {
     assert_eq!(rt; start_of(&e, 0), 6);
     assert_eq!(rt; start_of(&e, 9), 9);
     assert_eq!(rt; start_of(&Expr::Here, -2), -2);
+    Ok(())
+}
+
+/// The rows of each divisor over the powers of the variable, and its limit.
+fn listed(alloc: Global, divisors: &[Divisor]) -> Result<String, AllocError> {
+    let mut text = String::new(alloc);
+    for d in divisors {
+        let rows = rows_of(alloc, d)?;
+        text = format!(in alloc; "{text}{rows}from {} ", d.limit)?;
+    }
+    Ok(text)
+}
+
+fn rows_of(alloc: Global, d: &Divisor) -> Result<String, AllocError> {
+    let mut text = String::new(alloc);
+    for row in d.poly.rows().as_slice() {
+        text = format!(in alloc; "{text}{:?} ", row.as_slice())?;
+    }
+    Ok(text)
+}
+
+/// The divisors of the last expression of a text.
+fn divided(alloc: Global, text: &[u8], lower: i64) -> Result<String, Fail> {
+    let e = last(&mut read(alloc, text)?);
+    if !is_in_form(&e, false) {
+        return Ok(format!(in alloc; "not in form")?);
+    }
+    let divisors = divisor_parts(alloc, &e, lower)?;
+    Ok(listed(alloc, divisors.as_slice())?)
+}
+
+/// The zero parts of the products of the last expression of a text.
+fn factored(alloc: Global, text: &[u8]) -> Result<String, Fail> {
+    let e = last(&mut read(alloc, text)?);
+    if !is_in_form(&e, false) {
+        return Ok(format!(in alloc; "not in form")?);
+    }
+    let divisors = zero_parts(alloc, &e)?;
+    Ok(listed(alloc, divisors.as_slice())?)
+}
+
+#[test]
+fn divisors_are_in_normal_form(rt: HostRuntime) -> Result<(), Fail> {
+    for (text, lower, want) in [
+        ("1k2n*2k*~+2+*/", 1, "[] [1] from 1 [-1, -1] [1] from 1 "),
+        ("31k2~+/s1kk~+/+", 4, "[-2] [1] from 3 from 4 "),
+        ("1k2~+0^/n3+6k*/*", 0, "[1] from 0 [] [1] from 0 "),
+    ] {
+        let told = divided(rt.alloc(), text.as_bytes(), lower)?;
+        assert_eq!(rt; told.as_str(), want);
+    }
+    Ok(())
+}
+
+#[test]
+fn zero_parts_are_numerators(rt: HostRuntime) -> Result<(), Fail> {
+    for (text, want) in [
+        ("1nk~+1+k/p", "[-1, -1] [1] from 1 "),
+        ("2k4k/+1n/*p", "[4] [] [1] from 2 [1] from 2 "),
+    ] {
+        let told = factored(rt.alloc(), text.as_bytes())?;
+        assert_eq!(rt; told.as_str(), want);
+    }
     Ok(())
 }

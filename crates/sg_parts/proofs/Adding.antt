@@ -159,6 +159,9 @@ entry-front (c ∷ p) (suc n) z (suc i) = entry-front p n (λ k le. z (suc k) (o
 pub carry_on : (n r x m w s : ℤ) → n ≡ r +ℤ x → m ≡ x +ℤ w → r +ℤ m ≡ s → n +ℤ w ≡ s
 carry_on n r x m w s e f h = omega (arith, ints)
 
+pub none_added : (c a x : ℤ) → c ≡ pos 0 → a ≡ a +ℤ c *ℤ x
+none_added c a x e = sym (ap (λ c. a +ℤ c *ℤ x) e ∙ ring ℤR (a ∷ x ∷ []) (search readsℤ depth 16) refl)
+
 pub carry_all : (r m s : ℤ) → m ≡ pos 0 → r +ℤ m ≡ s → r ≡ s
 carry_all r m s e h = omega (arith, ints)
 

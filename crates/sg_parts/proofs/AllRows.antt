@@ -64,7 +64,7 @@ row_next (c ∷ p) (suc i) h = row_next p i (omega arith)
 lowest_step : (p : List ℤ) (i j : ℕ) → j ≡ suc i → i < length p → lowest (drop i p) ≡ unless_none (get_or p i (pos 0)) (lowest (drop j p))
 lowest_step p i j e h = rw e (ap lowest (row_next p i h))
 
-unless_some : (c l : ℤ) → c ≢ pos 0 → unless_none c l ≡ c
+pub unless_some : (c l : ℤ) → c ≢ pos 0 → unless_none c l ≡ c
 unless_some (pos zero) l h = absurd (h refl)
 unless_some (pos (suc n)) l h = refl
 unless_some (negsuc n) l h = refl

@@ -12,3 +12,4 @@ pub mod Weighing
 pub mod Fractions
 pub mod Sames
 pub mod PartExamples
+pub mod NormalForms

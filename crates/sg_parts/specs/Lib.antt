@@ -1,3 +1,4 @@
 pub mod Planes
 pub mod Weights
 pub mod Zeros
+pub mod Normal

@@ -2,6 +2,8 @@
 #![tactic(auto)]
 
 mod line;
+mod normal;
+mod numerators;
 mod planes;
 mod ratios;
 mod roots;
@@ -10,4 +12,6 @@ mod weights;
 mod zeros;
 
 pub use line::Line;
+pub use normal::normal_rows;
+pub use numerators::numerator_of;
 pub use zeros::{Zero, zero_of};

@@ -53,8 +53,8 @@ fn sum_row(alloc: Global, p: &[i128], c: i128, q: &[i128]) -> Result<Line, Alloc
     Ok(trimmed(row))
 }
 
-// The row at a place; past the last one it is empty.
-fn row_at(plane: &[Line], place: usize) -> &[i128]
+/// The row at a place; past the last one it is empty.
+pub fn row_at(plane: &[Line], place: usize) -> &[i128]
     ensures { result.now ≡ get_or plane.now place [] }
 {
     if place < plane.len() {
@@ -92,8 +92,8 @@ fn together(left: usize, right: usize) -> Result<usize, AllocError>
     Ok(left + right)
 }
 
-// A number of coefficients that no row exceeds.
-fn width_of(plane: &[Line]) -> usize
+/// A number of coefficients that no row exceeds.
+pub fn width_of(plane: &[Line]) -> usize
     ensures { (i : ℕ) → length (get_or plane.now i []) ≤ result }
 {
     let mut width = 0;

@@ -18,7 +18,7 @@ pub fn add_product(row: &mut Vec<i128>, p: &[i128], q: &[i128])
     }
 }
 
-// Adds `c` times the list, moved up to a place.
+// Adds `c` times the list, moved up to a place. Most coefficients of a sparse polynomial are 0.
 pub fn add_times(row: &mut Vec<i128>, at: usize, c: i128, list: &[i128])
     requires room { at + length list.now ≤ length row.old.items }
     requires light { row_size row.old.items + unsigned_abs c * row_size list.now < 2 ^ 127 }
@@ -26,6 +26,9 @@ pub fn add_times(row: &mut Vec<i128>, at: usize, c: i128, list: &[i128])
     ensures sum { (i : ℕ) → entry row.new.items i ≡ entry row.old.items i +ℤ c *ℤ moved at list.now i }
     ensures light { row_size row.new.items ≤ row_size row.old.items + unsigned_abs c * row_size list.now }
 {
+    if c == 0 {
+        return;
+    }
     for j in 0..list.len() {
         let term = product(c, list[j]);
         add_term(row, at + j, term);

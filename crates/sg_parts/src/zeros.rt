@@ -1,17 +1,15 @@
 ghost use Rattle.std.specs.Prelude.{◌<◌, ◌≤◌, IsTrue, IsFalse, IfOk, IfErr};
 ghost use Rattle.sg_spec.specs.Parts.{coefficients, numer, leading, cauchy};
 ghost use Rattle.sg_expr.specs.Tree.{tree_of};
-ghost use Rattle.sg_parts.specs.Planes.{IsLight, SamePlane};
+ghost use Rattle.sg_parts.specs.Planes.{IsLight};
 ghost use Rattle.sg_parts.specs.Weights.{IsOwn, HasNaturals, StopsHeavy};
 ghost use Rattle.sg_parts.specs.Zeros.{IsZero};
-ghost use Rattle.sg_spec.specs.Tree.{add};
 
 use crate::line::Line;
-use crate::ratios::{leaf, ratio_of, sum_over};
+use crate::numerators::numerator_of;
 use crate::roots::{first_zero, is_far, leading_place};
-use crate::weights::weigh_sum;
 use sg_expr::Expr;
-use sg_num::{Row, Stop};
+use sg_num::Stop;
 use std::alloc::Global;
 
 /// Where a part is 0, whatever the parameter is.
@@ -33,31 +31,8 @@ pub fn zero_of(alloc: Global, e: &Expr, limit: i64) -> Result<Zero, Stop>
     ensures zero { IfOk result (λ z. IsZero z (coefficients (numer (tree_of e.now))) limit) }
     ensures stop { IfErr result (λ s. StopsHeavy s (tree_of e.now)) }
 {
-    match e {
-        Expr::Add(a, b) => {
-            let plane = sum_plane(alloc, a, b)?;
-            Ok(plane_zero(plane.as_slice(), limit))
-        }
-        _ => {
-            let plane = leaf(alloc, e)?;
-            Ok(plane_zero(plane.as_slice(), limit))
-        }
-    }
-}
-
-// The numerator of the sum.
-fn sum_plane(alloc: Global, a: &Expr, b: &Expr) -> Result<Row<Line>, Stop>
-    requires left { HasNaturals (tree_of a.now) }
-    requires right { HasNaturals (tree_of b.now) }
-    ensures plane { IfOk result (λ r. SamePlane r (coefficients (numer (add (tree_of a.now) (tree_of b.now))))) }
-    ensures light { IfOk result (λ r. IsLight r) }
-    ensures stop { IfErr result (λ s. StopsHeavy s (add (tree_of a.now) (tree_of b.now))) }
-{
-    weigh_sum(a, b)?;
-    let x = ratio_of(alloc, a)?;
-    let y = ratio_of(alloc, b)?;
-    let over = sum_over(alloc, &x, &y)?;
-    Ok(over)
+    let plane = numerator_of(alloc, e)?;
+    Ok(plane_zero(plane.as_slice(), limit))
 }
 
 // Where all rows are 0.

@@ -2,8 +2,13 @@ use Rattle.std.proofs.Common.{rules, ◌≡◌, ◌+◌, ◌*◌, ◌<◌, ◌^�
 use Rattle.std.specs.Int.{w128}
 use Rattle.std.proofs.lemmas.Int.{to_z-of_z}
 use Rattle.sg_parts.specs.Planes.{row_size, entry, moved}
-use Rattle.sg_parts.proofs.Adding.{term_next, term_last, carry_on, carry_all, light_product, light_term, size_on}
+use Rattle.sg_parts.proofs.Adding.{term_next, term_last, carry_on, carry_all, none_added, light_product, light_term, size_on}
 use Rattle.sg_parts.proofs.rows.add_times.Goals as goal
+
+pub returns-then-c-eq0-clause-sum : goal.returns-then-c-eq0-clause-sum
+returns-then-c-eq0-clause-sum c =
+    let none : c.args.c ≡ pos 0 = search rules in
+    λ i. none_added c.args.c (entry c.args.row.now.items i) (moved c.args.at c.args.list.now i) none
 
 pub product-term-requires : goal.product-term-requires
 product-term-requires c =

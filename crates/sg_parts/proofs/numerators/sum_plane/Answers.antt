@@ -1,7 +1,7 @@
 use Rattle.sg_spec.specs.Parts.{ratio_of, ratio_sum}
 use Rattle.sg_expr.specs.Tree.{tree_of}
 use Rattle.sg_parts.proofs.Fractions.{alone_fits_left, alone_fits_right, sum_over_light, sum_over_is, ratio_light}
-use Rattle.sg_parts.proofs.zeros.sum_plane.Goals as goal
+use Rattle.sg_parts.proofs.numerators.sum_plane.Goals as goal
 
 pub ratio_of-requires-clause-over : goal.ratio_of-requires-clause-over
 ratio_of-requires-clause-over c = (alone_fits_left (ratio_of (tree_of c.args.a.now)) (ratio_of (tree_of c.args.b.now)) c.in_ok-weigh_sum.ensures.light).0

@@ -1,0 +1,4 @@
+pub mod WholeForms
+pub mod FlatParts
+pub mod ExpressedValues
+pub mod ExpressedForms

@@ -1,0 +1,4 @@
+pub mod Letters
+pub mod Forms
+pub mod FormLaws
+pub mod Expressions

@@ -3,7 +3,7 @@
 --   products-have         the factors above and below have these values of the products
 --   expression-value      the tree has at each point of the products and sums the value of the element
 use Rattle.std.proofs.Common.{◌≡◌, ℕ, zero, suc, ◌+◌, ℤ, pos, negsuc, unsigned_abs, refl, sym, ap, ap₂, ◌∙◌, subst, List, [], ◌∷◌, ◌++◌, length, map, reverse, take, drop, arith}
-use Rattle.std.proofs.lemmas.List.{length-reverse, length-take, length-drop, reverse-append, reverse-reverse, take-append-drop}
+use Rattle.std.proofs.lemmas.List.{length-reverse, length-take, length-drop, reverse-append, reverse-reverse, take-append-drop, map-append}
 use Rattle.sg_algebra.specs.Coefficients.{Each}
 use Rattle.sg_algebra.proofs.Ring.{pow}
 use Rattle.sg_algebra.proofs.Solver.{ring, by, scale, reads}
@@ -31,10 +31,6 @@ use Rattle.sg_build.specs.Expressions.{IsWrittenTerm, IsExpression}
 abbrev pub last_first : {d : ℕ} → ℕ → Point d → List (Value d)
 last_first zero p = []
 last_first (suc n) p = p.sums n ∷ last_first n p
-
-map-append : {A B : Type 0} (f : A → B) (a b : List A) → map f (a ++ b) ≡ map f a ++ map f b
-map-append f [] b = refl
-map-append f (y ∷ a) b = ap (λ l. f y ∷ l) (map-append f a b)
 
 pub map-reverse : {A B : Type 0} (f : A → B) (xs : List A) → map f (reverse xs) ≡ reverse (map f xs)
 map-reverse f [] = refl

@@ -53,7 +53,8 @@ fn push_signed(
 ) -> Result<(), Stop>
     requires few { i + length sums.now ≤ 64 }
     requires sized { All (λ p. i + length sums.now ≡ length p.powers) parts.now }
-    ensures terms { OnOk result (map signed_of out.new ≡ map signed_of out.old ++ signed_terms (map tree_of products.now) (map tree_of sums.now) (map (part_at i) parts.now)) }
+    ensures terms { OnOk result (map signed_of out.new
+        ≡ map signed_of out.old ++ signed_terms (map tree_of products.now) (map tree_of sums.now) (map (part_at i) parts.now)) }
     ensures wide { IfErr result KeepsWideStep }
 {
     match sums.split_first() {

@@ -48,22 +48,22 @@ module _ {d : ℕ} where
   glue_end : (r n : ℕ) (c u : ℕ → Value d) → ((i : ℕ) → n ≤ i → u i ≡ zero_value) → (k : ℕ) → r + n ≤ k → glue r c u k ≡ zero_value
   glue_end r n c u h k l = glue_rest r c u (k - r) k (omega arith) ∙ h (k - r) (omega arith)
 
-  abbrev total : (ℕ → Value d) → List (List (Value d)) → ℕ → Value d
+  abbrev pub total : (ℕ → Value d) → List (List (Value d)) → ℕ → Value d
   total m [] k = zero_value
   total m (b ∷ bs) k = m 0 *ᵛ coefficient b k +ᵛ total (λ l. m (suc l)) bs k
 
-  combined_total : (cs : List (Value d)) (bs : List (List (Value d))) (k : ℕ) → combined cs bs k ≡ total (coefficient cs) bs k
+  pub combined_total : (cs : List (Value d)) (bs : List (List (Value d))) (k : ℕ) → combined cs bs k ≡ total (coefficient cs) bs k
   combined_total [] [] k = refl
   combined_total [] (b ∷ bs) k = by (ValueR d) (coefficient b k ∷ total (coefficient []) bs k ∷ []) (combined_total [] bs k) (search reads depth 16) refl
   combined_total (c ∷ cs) [] k = refl
   combined_total (c ∷ cs) (b ∷ bs) k = ap (λ x. c *ᵛ coefficient b k +ᵛ x) (combined_total cs bs k)
 
-  total_none : (m : ℕ → Value d) (bs : List (List (Value d))) (k : ℕ) → ((i : ℕ) → i < length bs → coefficient (get_or bs i []) k ≡ zero_value) → total m bs k ≡ zero_value
+  pub total_none : (m : ℕ → Value d) (bs : List (List (Value d))) (k : ℕ) → ((i : ℕ) → i < length bs → coefficient (get_or bs i []) k ≡ zero_value) → total m bs k ≡ zero_value
   total_none m [] k h = refl
   total_none m (b ∷ bs) k h = by (ValueR d) (m 0 ∷ coefficient b k ∷ total (λ l. m (suc l)) bs k ∷ [])
       ((ValueR d).add_cong (scale (ValueR d) (m 0) (h 0 (omega arith))) (total_none (λ l. m (suc l)) bs k (λ i l. h (suc i) (omega arith)))) (search reads depth 16) refl
 
-  total_unit : (m : ℕ → Value d) (bs : List (List (Value d))) (k j : ℕ) → j < length bs → ((i : ℕ) → i < length bs → coefficient (get_or bs i []) k ≡ unit i j) → total m bs k ≡ m j
+  pub total_unit : (m : ℕ → Value d) (bs : List (List (Value d))) (k j : ℕ) → j < length bs → ((i : ℕ) → i < length bs → coefficient (get_or bs i []) k ≡ unit i j) → total m bs k ≡ m j
   total_unit m [] k j l h = absurd (omega arith)
   total_unit m (b ∷ bs) k zero l h = by (ValueR d) (m 0 ∷ coefficient b k ∷ total (λ l. m (suc l)) bs k ∷ [])
       ((ValueR d).add_cong (scale (ValueR d) (m 0) (h 0 (omega arith))) (total_none (λ l. m (suc l)) bs k (λ i l. h (suc i) (omega arith)))) (search reads depth 16) refl

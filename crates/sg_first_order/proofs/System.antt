@@ -64,15 +64,15 @@ module _ {d : ℕ} where
   abbrev pub row_of : List (List (Value d)) → ℕ → List (Value d)
   row_of bs t = map (λ b. coefficient b t) bs
 
-  abbrev mixed : (ℕ → Value d) → List (List (Value d)) → List (Value d)
+  abbrev pub mixed : (ℕ → Value d) → List (List (Value d)) → List (Value d)
   mixed w [] = []
   mixed w (b ∷ bs) = zip_longest ◌+ᵛ◌ (poly_mul (ValueR d) (w 0 ∷ []) b) (mixed (λ i. w (suc i)) bs)
 
-  poly-mixed : (w : ℕ → Value d) (bs : List (List (Value d))) → poly (mixed w bs) ≡ weighted w (map poly bs)
+  pub poly-mixed : (w : ℕ → Value d) (bs : List (List (Value d))) → poly (mixed w bs) ≡ weighted w (map poly bs)
   poly-mixed w [] = refl
   poly-mixed w (b ∷ bs) = poly-add (poly_mul (ValueR d) (w 0 ∷ []) b) (mixed (λ i. w (suc i)) bs) ∙ ap₂ ◌+ᵖ◌ (poly-mul (w 0 ∷ []) b) (poly-mixed (λ i. w (suc i)) bs)
 
-  coefficient-mixed : (w : ℕ → Value d) (bs : List (List (Value d))) (t : ℕ) → coefficient (mixed w bs) t ≡ row_times (row_of bs t) w
+  pub coefficient-mixed : (w : ℕ → Value d) (bs : List (List (Value d))) (t : ℕ) → coefficient (mixed w bs) t ≡ row_times (row_of bs t) w
   coefficient-mixed w [] t = refl
   coefficient-mixed w (b ∷ bs) t = coef-zip (ValueR d) (poly_mul (ValueR d) (w 0 ∷ []) b) (mixed (λ i. w (suc i)) bs) t
       ∙ ap₂ ◌+ᵛ◌ (coef-scale (ValueR d) (w 0) b t ∙ (ValueR d).mul_comm {x = w 0} {y = coefficient b t}) (coefficient-mixed (λ i. w (suc i)) bs t)

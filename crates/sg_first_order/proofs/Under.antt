@@ -6,6 +6,7 @@
 --   first n f              the list f 0, .., f (n-1); first-weighted: its polynomial is the sum of the powers of k with these factors
 --   under_first            a polynomial below n is that of its first n coefficients
 use Rattle.std.proofs.Common.{◌≡◌, ℕ, zero, suc, ◌≤◌, ◌<◌, refl, sym, ◌∙◌, ap, ap₂, List, [], ◌∷◌, ◌++◌, ◌⊎◌, inl, inr, map, length, arith}
+use Rattle.std.proofs.lemmas.List.{map-append}
 use Rattle.sg_algebra.specs.Coefficients.{Each, zip_longest, poly_mul}
 use Rattle.sg_algebra.proofs.Solver.{ring, reads}
 use Rattle.sg_algebra.proofs.PolynomialRing.{X, cons-is}
@@ -46,10 +47,6 @@ module _ {d : ℕ} where
   abbrev pub powers : ℕ → List (Polynomial d)
   powers zero = []
   powers (suc n) = one_polynomial ∷ map times_variable (powers n)
-
-  map-append : (f : Polynomial d → Polynomial d) (xs ys : List (Polynomial d)) → map f (xs ++ ys) ≡ map f xs ++ map f ys
-  map-append f [] ys = refl
-  map-append f (x ∷ xs) ys = ap (λ z. f x ∷ z) (map-append f xs ys)
 
   pub powers-more : (n : ℕ) → powers (suc n) ≡ powers n ++ monomial n ∷ []
   powers-more zero = refl

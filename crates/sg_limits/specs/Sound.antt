@@ -1,50 +1,16 @@
 -- What the expressions of a command have where none of their parts is 0.
---   HasValues letter from t      the tree has a value at each number from a first one on
---   HasFactors letter from t     one other than 0
---   HasBody letter g             the body of a sum has a value at each number from its lower limit on, that of a product one other than 0
---   StartsBy s g                 the range of a sum or product doesn't run down from s on
 --   IsSound letter a es          each expression has a value from a on, and so have the bodies of all sums and products; from the start on no range runs down
-use Rattle.std.specs.Prelude.{◌≡◌, ℕ, ℤ, pos, ◌-ℤ◌, ◌≤ℤ◌, List}
+use Rattle.std.specs.Prelude.{ℕ, ℤ, List}
 use Rattle.sg_algebra.specs.Coefficients.{Each}
-use Rattle.sg_algebra.proofs.Value.{Value, zero_value}
-use Rattle.sg_spec.specs.Tree.{Tree, numeral, here, param, add, neg, mul, div, power, sum_from, prod_from}
+use Rattle.sg_algebra.proofs.Value.{Value}
+use Rattle.sg_spec.specs.Tree.{Tree}
 use Rattle.sg_spec.specs.Generators.{sums, prods, start}
-use Rattle.sg_spec.specs.Worth.{HasWorth}
-
-abbrev pub StartsBy : ℤ → Tree → Type 0
-StartsBy s (numeral c) = ⊥
-StartsBy s here = ⊥
-StartsBy s param = ⊥
-StartsBy s (add x y) = ⊥
-StartsBy s (neg x) = ⊥
-StartsBy s (mul x y) = ⊥
-StartsBy s (div x y) = ⊥
-StartsBy s (power x e) = ⊥
-StartsBy s (sum_from from body) = (from -ℤ pos 1) ≤ℤ s
-StartsBy s (prod_from from body) = (from -ℤ pos 1) ≤ℤ s
+use Rattle.sg_written.proofs.Bodies.{HasValues, HasBody, StartsBy}
 
 module _ {d : ℕ} (letter : Value d) where
-  abbrev pub HasValues : ℤ → Tree → Type 0
-  HasValues from t = (k : ℤ) → from ≤ℤ k → (v : Value d) × HasWorth letter t k v
-
-  abbrev pub HasFactors : ℤ → Tree → Type 0
-  HasFactors from t = (k : ℤ) → from ≤ℤ k → (v : Value d) × HasWorth letter t k v × ¬ (v ≡ zero_value)
-
-  abbrev pub HasBody : Tree → Type 0
-  HasBody (numeral c) = ⊥
-  HasBody here = ⊥
-  HasBody param = ⊥
-  HasBody (add x y) = ⊥
-  HasBody (neg x) = ⊥
-  HasBody (mul x y) = ⊥
-  HasBody (div x y) = ⊥
-  HasBody (power x e) = ⊥
-  HasBody (sum_from from body) = HasValues from body
-  HasBody (prod_from from body) = HasFactors from body
-
   pub record IsSound (a : ℤ) (es : List Tree) : Type 0 where
-    pub values : Each (HasValues a) es
-    pub sums_have : Each HasBody (sums es)
-    pub products_have : Each HasBody (prods es)
+    pub values : Each (HasValues letter a) es
+    pub sums_have : Each (HasBody letter) (sums es)
+    pub products_have : Each (HasBody letter) (prods es)
     pub sums_start : Each (StartsBy (start es a)) (sums es)
     pub products_start : Each (StartsBy (start es a)) (prods es)

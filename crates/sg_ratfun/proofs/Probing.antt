@@ -7,7 +7,7 @@
 --   item_has, item_nonzero    a fraction has the quotient of the values of its parts, which isn't 0 where it is tested
 --   items_push, items_probe   one item more; what is to be answered
 use Rattle.std.proofs.Common.{◌≡◌, ◌≢◌, ℕ, zero, suc, ◌+◌, ◌<◌, ◌≤◌, refl, sym, ◌∙◌, ap, List, [], ◌∷◌, ◌++◌, map, length, take, drop, get_or, ℤ, append_assoc, append-nil, add-one, pos, Bool, true, false, IsTrue, ◌↔◌, ◌-◌, rules, arith}
-use Rattle.std.proofs.lemmas.List.{drop_more, length-drop, length-append}
+use Rattle.std.proofs.lemmas.List.{drop_more, length-drop, length-append, map-append}
 use Rattle.sg_algebra.specs.Coefficients.{eval}
 use Rattle.sg_algebra.proofs.Value.{Value, over_value, zero_value, ◌/ᵛ◌}
 use Rattle.sg_algebra.proofs.ValueField.{ValueR}
@@ -56,17 +56,13 @@ module _ {A B : Type 0} (R : A → B → Type 0) where
   map_pairwise f (x ∷ xs) (v ∷ vs) p = (p.0, map_pairwise f xs vs p.1)
 
 module _ {A B : Type 0} (f : A → B) where
-  pub map_append : (xs ys : List A) → map f (xs ++ ys) ≡ map f xs ++ map f ys
-  map_append [] ys = refl
-  map_append (x ∷ xs) ys = ap (◌∷◌ (f x)) (map_append xs ys)
-
   pub last_item : (xs : List A) (i : ℕ) (x : A) → i < length xs → x ≡ get_or xs i x → map f (drop i xs) ≡ f x ∷ map f (drop (i + 1) xs)
   last_item xs i x h e = ap (map f) (drop_more xs i x h ∙ ap (λ y. y ∷ drop (i + 1) xs) (sym e))
 
   -- an item goes from the front of one list to the end of another
   pub moved_over : (row longer p : List A) (c x : A) (i : ℕ) (total : List B) → i < length p → x ≡ get_or p i x → f c ≡ f x → longer ≡ row ++ c ∷ [] → map f row ++ map f (drop i p) ≡ total → map f longer ++ map f (drop (i + 1) p) ≡ total
   moved_over row longer p c x i total h e s l t =
-      ap (λ r. map f r ++ map f (drop (i + 1) p)) l ∙ ap (λ r. r ++ map f (drop (i + 1) p)) (map_append row (c ∷ []) ∙ ap (λ y. map f row ++ y ∷ []) s)
+      ap (λ r. map f r ++ map f (drop (i + 1) p)) l ∙ ap (λ r. r ++ map f (drop (i + 1) p)) (map-append f row (c ∷ []) ∙ ap (λ y. map f row ++ y ∷ []) s)
       ∙ append_assoc (map f row) (f x ∷ []) (map f (drop (i + 1) p)) ∙ ap (◌++◌ (map f row)) (sym (last_item p i x h e)) ∙ t
 
   pub put_behind : {w : List B} (row : List B) {p q r : List A} → w ≡ row ++ map f p → p ≡ q → q ≡ r → w ≡ row ++ map f r
@@ -89,7 +85,7 @@ module _ {A B : Type 0} (f : A → B) where
   gathered_step w w' w'' list i x total h e p q t =
       ap (λ y. y ++ map f (coefficients (drop (i + 1) list))) (q ∙ ap (λ y. y ++ map f x.1) p)
       ∙ four w (map f x.0) (map f x.1) (map f (coefficients (drop (i + 1) list)))
-      ∙ ap (◌++◌ w) (sym (map_append x.0 (x.1 ++ coefficients (drop (i + 1) list)) ∙ ap (◌++◌ (map f x.0)) (map_append x.1 (coefficients (drop (i + 1) list)))))
+      ∙ ap (◌++◌ w) (sym (map-append f x.0 (x.1 ++ coefficients (drop (i + 1) list)) ∙ ap (◌++◌ (map f x.0)) (map-append f x.1 (coefficients (drop (i + 1) list)))))
       ∙ ap (λ (r : List (List A × List A)). w ++ map f (coefficients r)) (sym (drop_more list i x h ∙ ap (λ y. y ∷ drop (i + 1) list) (sym e))) ∙ t
 
   pub all_gathered : (w : List B) (list : List (List A × List A)) (i : ℕ) (total : List B) → length list ≤ i → w ++ map f (coefficients (drop i list)) ≡ total → w ≡ total
@@ -110,10 +106,10 @@ module _ {K : Type 0} {d : ℕ} (v : K → Value d) (args : List ℤ) where
 
   -- the values of an item's coefficients, and of those behind
   pub known_upper : (a b c : List K) (vs : List Rat) → Pairwise Known (map v (a ++ (b ++ c))) vs → Pairwise Known (map v a) (take (length a) vs)
-  known_upper a b c vs p = rw (length_map v a) at (pairwise_left Known (map v a) (map v (b ++ c)) vs (rw (map_append v a (b ++ c)) at p))
+  known_upper a b c vs p = rw (length_map v a) at (pairwise_left Known (map v a) (map v (b ++ c)) vs (rw (map-append v a (b ++ c)) at p))
 
   known_behind : (a b : List K) (vs : List Rat) → Pairwise Known (map v (a ++ b)) vs → Pairwise Known (map v b) (drop (length a) vs)
-  known_behind a b vs p = rw (length_map v a) at (pairwise_right Known (map v a) (map v b) vs (rw (map_append v a b) at p))
+  known_behind a b vs p = rw (length_map v a) at (pairwise_right Known (map v a) (map v b) vs (rw (map-append v a b) at p))
 
   dropped : {A : Type 0} (n m : ℕ) (vs : List A) → drop n (drop m vs) ≡ drop (m + n) vs
   dropped n zero vs = ap (λ k. drop k vs) (start n)
@@ -169,7 +165,7 @@ module _ {K : Type 0} {d : ℕ} (v : K → Value d) (args : List ℤ) where
   }
     where
       known_first : (b c : List K) (vs : List Rat) → Pairwise Known (map v (b ++ c)) vs → Pairwise Known (map v b) (take (length b) vs)
-      known_first b c vs p = rw (length_map v b) at (pairwise_left Known (map v b) (map v c) vs (rw (map_append v b c) at p))
+      known_first b c vs p = rw (length_map v b) at (pairwise_left Known (map v b) (map v c) vs (rw (map-append v b c) at p))
 
   pub item_nonzero : (r : List K × List K) (zero_test : Bool) (out : Rat) → IsReduced (map v r.0) (map v r.1) → (IsTrue zero_test ↔ (poly (map v r.0) ≡ zero_polynomial)) → (zero_test ≡ false → ¬ (number out ≡ zero_value))
       → ¬ (fraction_of r ≡ zero_value) → ¬ (number out ≡ zero_value)

@@ -114,7 +114,8 @@ fn item_from(
 ) -> Result<Option<Rat>, Stop>
     requires { (at + n) + m ≤ length values.now }
     ensures defined { IfOk result (λ o. IfSome o (λ _. ¬ (polynomial_at number (take m (drop (at + n) values.now)) (number x) ≡ zero_value))) }
-    ensures value { IfOk result (λ o. IfSome o (λ v. number v ≡ quotient_at number (take n (drop at values.now)) (take m (drop (at + n) values.now)) (number x))) }
+    ensures value { IfOk result (λ o. IfSome o (λ v.
+        number v ≡ quotient_at number (take n (drop at values.now)) (take m (drop (at + n) values.now)) (number x))) }
     ensures nonzero { IfOk result (λ o. IfSome o (λ v. zero ≡ false → ¬ (number v ≡ zero_value))) }
     ensures wide { IfErr result KeepsWideStep }
 {

@@ -7,7 +7,7 @@ use Rattle.std.proofs.Common.{◌≡◌, ℕ, zero, suc, ◌≤◌, ◌<◌, ref
 use Rattle.sg_algebra.specs.Coefficients.{Each}
 use Rattle.sg_algebra.proofs.Solver.{ring, by, scale, reads}
 use Rattle.sg_algebra.proofs.Lists.{length_map}
-use Rattle.sg_algebra.proofs.Linear.{Span, table, Form, unit, combined}
+use Rattle.sg_algebra.proofs.Linear.{Span, table, Form}
 use Rattle.sg_algebra.proofs.NullSpace.{axis_one, table_at}
 use Rattle.sg_algebra.proofs.Rows.{past_row}
 use Rattle.sg_algebra.proofs.Value.{Value, zero_value, one_value, neg_value, ◌+ᵛ◌, ◌-ᵛ◌, ◌*ᵛ◌}
@@ -15,6 +15,7 @@ use Rattle.sg_algebra.proofs.ValueField.{ValueR, value_one_ne}
 use Rattle.sg_algebra.proofs.Embedding.{constant_value, constant_value_zero}
 use Rattle.sg_algebra.proofs.Polynomial.{Polynomial, PolynomialR, coefficient, constant, zero_polynomial, ◌-ᵖ◌, ◌*ᵖ◌}
 use Rattle.sg_theory.proofs.Listed.{list_of}
+use Rattle.sg_first_order.proofs.Basis.{total, combined_total, total_unit}
 use Rattle.sg_first_order.proofs.Next.{next, nextH}
 use Rattle.sg_shift.proofs.ShiftValue.{shift_value, shift_value-one}
 use Rattle.sg_first_order.proofs.ValueFractions.{whole, whole-zero, whole-one}
@@ -26,28 +27,6 @@ use Rattle.sg_reduction.proofs.Kernel.{kernel_one, kernel_other}
 use Rattle.sg_reduction.proofs.Spanning.{Sized, Known, known_sum, known_cong, known_apart, none_cong, constant-zero, Apart}
 
 module _ {d : ℕ} where
-  abbrev total : (ℕ → Value d) → List (List (Value d)) → ℕ → Value d
-  total m [] k = zero_value
-  total m (b ∷ bs) k = m 0 *ᵛ coefficient b k +ᵛ total (λ l. m (suc l)) bs k
-
-  combined_total : (cs : List (Value d)) (bs : List (List (Value d))) (k : ℕ) → combined cs bs k ≡ total (coefficient cs) bs k
-  combined_total [] [] k = refl
-  combined_total [] (b ∷ bs) k = by (ValueR d) (coefficient b k ∷ total (coefficient []) bs k ∷ []) (combined_total [] bs k) (search reads depth 16) refl
-  combined_total (c ∷ cs) [] k = refl
-  combined_total (c ∷ cs) (b ∷ bs) k = ap (λ x. c *ᵛ coefficient b k +ᵛ x) (combined_total cs bs k)
-
-  total_none : (m : ℕ → Value d) (bs : List (List (Value d))) (k : ℕ) → ((i : ℕ) → i < length bs → coefficient (get_or bs i []) k ≡ zero_value) → total m bs k ≡ zero_value
-  total_none m [] k h = refl
-  total_none m (b ∷ bs) k h = by (ValueR d) (m 0 ∷ coefficient b k ∷ total (λ l. m (suc l)) bs k ∷ [])
-      ((ValueR d).add_cong (scale (ValueR d) (m 0) (h 0 (omega arith))) (total_none (λ l. m (suc l)) bs k (λ i l. h (suc i) (omega arith)))) (search reads depth 16) refl
-
-  total_unit : (m : ℕ → Value d) (bs : List (List (Value d))) (k j : ℕ) → j < length bs → ((i : ℕ) → i < length bs → coefficient (get_or bs i []) k ≡ unit i j) → total m bs k ≡ m j
-  total_unit m [] k j l h = absurd (omega arith)
-  total_unit m (b ∷ bs) k zero l h = by (ValueR d) (m 0 ∷ coefficient b k ∷ total (λ l. m (suc l)) bs k ∷ [])
-      ((ValueR d).add_cong (scale (ValueR d) (m 0) (h 0 (omega arith))) (total_none (λ l. m (suc l)) bs k (λ i l. h (suc i) (omega arith)))) (search reads depth 16) refl
-  total_unit m (b ∷ bs) k (suc j) l h = by (ValueR d) (m 0 ∷ m (suc j) ∷ coefficient b k ∷ total (λ l. m (suc l)) bs k ∷ [])
-      ((ValueR d).add_cong (scale (ValueR d) (m 0) (h 0 (omega arith))) (total_unit (λ l. m (suc l)) bs k j (omega arith) (λ i l. h (suc i) (omega arith)))) (search reads depth 16) refl
-
   abbrev cut : ℕ → (ℕ → Value d) → ℕ → Value d
   cut zero c i = zero_value
   cut (suc r) c zero = c 0

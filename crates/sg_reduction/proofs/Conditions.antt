@@ -4,16 +4,15 @@
 --   alone r i p           r polynomials that are 0 but for p at i; alone-weighted
 --   whole-end             a combination of polynomials with one more
 --   reduced_more          one function more, as a polynomial and a fraction
-use Rattle.std.proofs.Common.{◌≡◌, ℕ, zero, suc, ◌<◌, ◌≤◌, refl, sym, ◌∙◌, ap, ap₂, subst, List, [], ◌∷◌, ◌++◌, map, length, arith}
-use Rattle.sg_algebra.specs.Coefficients.{Each, zip_longest, poly_mul}
+use Rattle.std.proofs.Common.{◌≡◌, ℕ, zero, suc, ◌<◌, ◌≤◌, refl, sym, ◌∙◌, ap, subst, List, [], ◌∷◌, ◌++◌, map, length, arith}
+use Rattle.sg_algebra.specs.Coefficients.{Each}
 use Rattle.sg_algebra.proofs.Solver.{ring, by, scale, reads}
-use Rattle.sg_algebra.proofs.PolynomialRing.{coef-zip, coef-scale}
 use Rattle.sg_algebra.proofs.Linear.{row_times}
 use Rattle.sg_algebra.proofs.Value.{Value, zero_value, inv_value, ◌+ᵛ◌, ◌*ᵛ◌, ◌/ᵛ◌}
 use Rattle.sg_algebra.proofs.ValueField.{ValueR}
 use Rattle.sg_algebra.proofs.Embedding.{constant_value}
-use Rattle.sg_algebra.proofs.Polynomial.{Polynomial, PolynomialR, poly, poly_same, same_poly, poly-add, poly-mul, coefficient, constant, zero_polynomial, ◌+ᵖ◌, ◌*ᵖ◌}
-use Rattle.sg_first_order.proofs.System.{row_of}
+use Rattle.sg_algebra.proofs.Polynomial.{Polynomial, PolynomialR, poly, poly_same, same_poly, constant, zero_polynomial, ◌+ᵖ◌, ◌*ᵖ◌}
+use Rattle.sg_first_order.proofs.System.{row_of, mixed, poly-mixed, coefficient-mixed}
 use Rattle.sg_first_order.proofs.ValueFractions.{whole, whole-add, whole-mul}
 use Rattle.sg_first_order.proofs.Under.{Under, poly_under, under_weighted}
 use Rattle.sg_first_order.proofs.Weighted.{weighted}
@@ -21,19 +20,6 @@ use Rattle.sg_first_order.specs.Solutions.{weighted_value}
 use Rattle.sg_reduction.proofs.Moves.{Share, sum_at, difference, Reduced, whole-constant}
 
 module _ {d : ℕ} where
-  abbrev mixed : (ℕ → Value d) → List (List (Value d)) → List (Value d)
-  mixed w [] = []
-  mixed w (b ∷ bs) = zip_longest ◌+ᵛ◌ (poly_mul (ValueR d) (w 0 ∷ []) b) (mixed (λ i. w (suc i)) bs)
-
-  poly-mixed : (w : ℕ → Value d) (bs : List (List (Value d))) → poly (mixed w bs) ≡ weighted w (map poly bs)
-  poly-mixed w [] = refl
-  poly-mixed w (b ∷ bs) = poly-add (poly_mul (ValueR d) (w 0 ∷ []) b) (mixed (λ i. w (suc i)) bs) ∙ ap₂ ◌+ᵖ◌ (poly-mul (w 0 ∷ []) b) (poly-mixed (λ i. w (suc i)) bs)
-
-  coefficient-mixed : (w : ℕ → Value d) (bs : List (List (Value d))) (t : ℕ) → coefficient (mixed w bs) t ≡ row_times (row_of bs t) w
-  coefficient-mixed w [] t = refl
-  coefficient-mixed w (b ∷ bs) t = coef-zip (ValueR d) (poly_mul (ValueR d) (w 0 ∷ []) b) (mixed (λ i. w (suc i)) bs) t
-      ∙ ap₂ ◌+ᵛ◌ (coef-scale (ValueR d) (w 0) b t ∙ (ValueR d).mul_comm {x = w 0} {y = coefficient b t}) (coefficient-mixed (λ i. w (suc i)) bs t)
-
   pub none_rows : (w : ℕ → Value d) (bs : List (List (Value d))) → ((t : ℕ) → row_times (row_of bs t) w ≡ zero_value) → weighted w (map poly bs) ≡ zero_polynomial
   none_rows w bs h = sym (poly-mixed w bs) ∙ poly_same (mixed w bs) [] (λ t. coefficient-mixed w bs t ∙ h t)
 

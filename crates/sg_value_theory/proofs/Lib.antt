@@ -38,7 +38,6 @@ pub mod FormalLaws
 pub mod Converse
 pub mod OwnSums
 pub mod NoneMeansNone
-pub mod NumberWorths
 pub mod FlatValues
 pub mod FlatTerms
 pub mod Inverses

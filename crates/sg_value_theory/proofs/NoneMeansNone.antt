@@ -26,10 +26,9 @@ use Rattle.sg_value_theory.proofs.Elements.{Point}
 use Rattle.sg_spec.specs.Worth.{HasWorth}
 use Rattle.sg_value_theory.proofs.TreePoints.{IsPointOf, Agrees}
 use Rattle.sg_value_theory.proofs.TowerOf.{IsTowerOf, IsFormallyNone, at_places, BuiltOver}
-use Rattle.sg_written.proofs.Worths.{worth_number}
+use Rattle.sg_written.proofs.Worths.{worth_number, number_worth}
 use Rattle.sg_written.proofs.Closes.{no_letter}
 use Rattle.sg_value_theory.proofs.NumberParts.{left_number, right_number, both_parts}
-use Rattle.sg_value_theory.proofs.NumberWorths.{number_has}
 use Rattle.sg_value_theory.proofs.Divisors.{listed_divisor}
 use Rattle.sg_value_theory.proofs.OverProducts.{AgreesFrom, element_over}
 use Rattle.sg_value_theory.proofs.Places.{Places}
@@ -130,12 +129,12 @@ tele_left : (e f : Tree) (t : Tele e f) (k : ℤ) → t.from ≤ℤ k → (v : V
 tele_left e f t k l =
     let n = left_number (both difference_of (val e (pos 0) (k +ℤ pos 1)) (val e (pos 0) k)) (val f (pos 0) k) (t.steps k l) in
     let m = (both_parts difference_of (val e (pos 0) (k +ℤ pos 1)) (val e (pos 0) k) n.0 n.1).1 in
-    (m.0, number_has (pos 0) e k m.0 m.1)
+    (m.0, number_worth (pos 0) e k m.0 m.1)
 
 tele_right : (e f : Tree) (t : Tele e f) (k : ℤ) → t.from ≤ℤ k → (v : Value 0) × HasWorth no_letter f k v
 tele_right e f t k l =
     let m = right_number (both difference_of (val e (pos 0) (k +ℤ pos 1)) (val e (pos 0) k)) (val f (pos 0) k) (t.steps k l) in
-    (m.0, number_has (pos 0) f k m.0 m.1)
+    (m.0, number_worth (pos 0) f k m.0 m.1)
 
 up_to_place : (K z k : ℤ) → K ≤ℤ z → z ≤ℤ k → K ≤ℤ k
 up_to_place K z k l m = omega (arith, ints, l, m)

@@ -1,14 +1,12 @@
 -- The tower in which a command works.
 --   BuiltOver ps ss e      e is built from numerals, the variable, the parameter, the operations, and the listed products and sums; what is divided by is a divisor
---   StartsBy s g           the sum or product g follows its equation from s on
---   HasBody letter g       its body has a value at each place from its lower limit on, and that of a product isn't 0
 --   IsSound letter s ps ss     the products ps and the sums ss are those of expressions, each over those before it
 --   HoldsBelow f i x       x holds no sum from i on
 --   IsTowerOf letter s ps ss f places known    the tower f stands over the products ps and the sums of ss at the places, which are the free ones, and known are the elements of all the sums
 --   IsFormallyNone letter s ps ss e            in such a tower, in which each sum is new, nothing telescopes the element of e
-use Rattle.std.proofs.Common.{◌≡◌, ℕ, zero, suc, ◌<◌, ◌≤◌, ℤ, pos, negsuc, ◌+ℤ◌, ◌-ℤ◌, ◌≤ℤ◌, cond, nat_le, List, [], ◌∷◌, ◌++◌, length, map, Contains, get_or}
+use Rattle.std.proofs.Common.{◌≡◌, ℕ, zero, suc, ◌<◌, ◌≤◌, ℤ, pos, negsuc, ◌+ℤ◌, ◌≤ℤ◌, cond, nat_le, List, [], ◌∷◌, ◌++◌, length, map, Contains, get_or}
 use Rattle.sg_algebra.specs.Coefficients.{Each}
-use Rattle.sg_algebra.proofs.Value.{Value, zero_value}
+use Rattle.sg_algebra.proofs.Value.{Value}
 use Rattle.sg_algebra.proofs.Place.{Pairwise}
 use Rattle.sg_spec.specs.Tree.{Tree, numeral, here, param, add, neg, mul, div, power, sum_from, prod_from}
 use Rattle.sg_spec.specs.Generators.{distinct}
@@ -17,7 +15,7 @@ use Rattle.sg_tower_theory.proofs.Difference.{delta}
 use Rattle.sg_tower_theory.proofs.Nested.{NestedR}
 use Rattle.sg_tower_theory.proofs.Formal.{Formal, Element, elements, shifted, base, IsIndependent, own_sum}
 use Rattle.sg_value_theory.proofs.Elements.{Point, Follows}
-use Rattle.sg_spec.specs.Worth.{HasWorth}
+use Rattle.sg_written.proofs.Bodies.{StartsBy, HasBody}
 use Rattle.sg_value_theory.proofs.TreePoints.{IsPointOf, Agrees}
 
 abbrev pub BuiltOver : List Tree → List Tree → Tree → Type 0
@@ -44,31 +42,7 @@ IsSumOver ps ss (power x e) = ⊥
 IsSumOver ps ss (sum_from from body) = BuiltOver ps ss body
 IsSumOver ps ss (prod_from from body) = ⊥
 
-abbrev pub StartsBy : ℤ → Tree → Type 0
-StartsBy s (numeral c) = ⊥
-StartsBy s here = ⊥
-StartsBy s param = ⊥
-StartsBy s (add x y) = ⊥
-StartsBy s (neg x) = ⊥
-StartsBy s (mul x y) = ⊥
-StartsBy s (div x y) = ⊥
-StartsBy s (power x e) = ⊥
-StartsBy s (sum_from from body) = (from -ℤ pos 1) ≤ℤ s
-StartsBy s (prod_from from body) = (from -ℤ pos 1) ≤ℤ s
-
 module _ {d : ℕ} (letter : Value d) where
-  abbrev pub HasBody : Tree → Type 0
-  HasBody (numeral c) = ⊥
-  HasBody here = ⊥
-  HasBody param = ⊥
-  HasBody (add x y) = ⊥
-  HasBody (neg x) = ⊥
-  HasBody (mul x y) = ⊥
-  HasBody (div x y) = ⊥
-  HasBody (power x e) = ⊥
-  HasBody (sum_from from body) = (j : ℤ) → from ≤ℤ j → (v : Value d) × HasWorth letter body j v
-  HasBody (prod_from from body) = (j : ℤ) → from ≤ℤ j → (v : Value d) × HasWorth letter body j v × ¬ (v ≡ zero_value)
-
   -- no products yet
   pub record IsSound (s : ℤ) (ps ss : List Tree) : Type 0 where
     pub few : length ss ≤ 8
@@ -77,7 +51,7 @@ module _ {d : ℕ} (letter : Value d) where
     pub not_low : negsuc 1000 ≤ℤ s
     pub not_high : s ≤ℤ pos 1000
     pub starts : Each (StartsBy s) ss
-    pub bodies : Each HasBody ss
+    pub bodies : Each (HasBody letter) ss
     pub over_earlier : (before after : List Tree) (g : Tree) → ss ≡ before ++ g ∷ after → IsSumOver ps before g
 
 -- the element is one of the tower before the sum i

@@ -1,4 +1,5 @@
 pub mod Worths
+pub mod Bodies
 pub mod Closes
 pub mod WrittenTerms
 pub mod WrittenElements

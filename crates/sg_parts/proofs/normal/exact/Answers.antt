@@ -2,7 +2,8 @@ use Rattle.std.proofs.Common.{◌∙◌, ap, ◌*ℤ◌, unsigned_abs, rules, Fi
 use Rattle.std.specs.Int.{w128}
 use Rattle.std.proofs.lemmas.Int.{quot_is}
 use Rattle.std.proofs.lemmas.Nat.Gcd.{mod-eq-zero_of_dvd}
-use Rattle.sg_parts.proofs.Quotients.{whole_quotient, quotient_fits}
+use Rattle.sg_num.proofs.WholeSteps.{whole_quotient}
+use Rattle.sg_parts.proofs.Quotients.{quotient_fits}
 use Rattle.sg_parts.proofs.normal.exact.Goals as goal
 
 pub returns : goal.returns

@@ -1,7 +1,8 @@
 use Rattle.std.proofs.Common.{◌≡◌, ◌∙◌, sym, ap, ap₂, ◌*ℤ◌, ◌%◌, unsigned_abs, rules, FitsSigned}
 use Rattle.std.specs.Int.{w128}
 use Rattle.std.proofs.lemmas.Int.{quot_is}
-use Rattle.sg_parts.proofs.Quotients.{whole_quotient, no_quotient, quotient_fits}
+use Rattle.sg_num.proofs.WholeSteps.{whole_quotient, no_quotient}
+use Rattle.sg_parts.proofs.Quotients.{quotient_fits}
 use Rattle.sg_parts.proofs.roots.quotient.Goals as goal
 
 pub returns-then-unsigned_abs-ne0-clause-none : goal.returns-then-unsigned_abs-ne0-clause-none

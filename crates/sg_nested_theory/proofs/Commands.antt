@@ -3,6 +3,7 @@
 --   Ordered seen ts  each sum of ts is one over those of seen and those before it
 --   sums-ordered     so are the sums of expressions
 --   sums-distinct    they have no repeats
+--   sums-form        they are in form
 --   start-above, start-small      the start is at least the lower limit, and at most 1,000 where that is
 --   sound-command    where the bodies have values and no range runs down, a tower can be built over them
 use Rattle.std.proofs.Common.{◌≡◌, ℕ, ◌≤◌, refl, sym, ap, ◌∙◌, subst, List, [], ◌∷◌, ◌++◌, inl, inr, length, ℤ, pos, negsuc, ◌-ℤ◌, ◌≤ℤ◌, unsigned_abs, Bool, true, false, ◌&&◌, true≢false, cond, Contains, append_assoc, append-nil, arith}
@@ -19,10 +20,15 @@ use Rattle.sg_spec.specs.Shape.{is_polynomial_tree, is_divisor_tree}
 use Rattle.sg_written.proofs.Bodies.{StartsBy, HasBody}
 use Rattle.sg_value_theory.proofs.Divisors.{IsPolynomial, IsDivisor}
 use Rattle.sg_value_theory.proofs.TowerOf.{BuiltOver, IsSumOver, IsSound}
+use Rattle.sg_value_theory.proofs.Lists.{each-more}
 use Rattle.sg_value_theory.proofs.OwnSums.{tree_same, nothing}
 
 abbrev pub HasNoProduct : Tree → Type 0
 HasNoProduct e = all_prods e ≡ []
+
+each-append : {A : Type 0} (P : A → Type 0) (xs ys : List A) → Each P xs → Each P ys → Each P (xs ++ ys)
+each-append P [] ys h k = k
+each-append P (x ∷ xs) ys h k = (h.0, each-append P xs ys h.1 k)
 
 no-cons : {A : Type 0} (x : A) (xs : List A) → x ∷ xs ≡ [] → ⊥
 no-cons x xs e = grind (arith, e)
@@ -205,6 +211,35 @@ fresh-same seen (t ∷ ts) f = ap (λ (b : Bool). with_new (cond b seen (seen ++
 
 pub sums-distinct : (es : List Tree) → distinct (sums es) ≡ sums es
 sums-distinct es = fresh-same [] (sums es) (fresh-new [] (concatenated all_sums es) tt)
+
+-- ---- Form
+
+forms-of : (known : Bool) (p : Bool) (f : Tree) → InForm known p f → Each (InForm known false) (all_sums f)
+forms-of known p (numeral c) i = tt
+forms-of known p here i = tt
+forms-of known p param i = tt
+forms-of known p (add x y) i = each-append (InForm known false) (all_sums x) (all_sums y) (forms-of known p x i.0) (forms-of known p y i.1)
+forms-of known p (neg x) i = forms-of known p x i
+forms-of known p (mul x y) i = each-append (InForm known false) (all_sums x) (all_sums y) (forms-of known p x i.0) (forms-of known p y i.1)
+forms-of known p (div x y) i = each-append (InForm known false) (all_sums x) (all_sums y) (forms-of known p x i.0) (forms-of known p y i.1)
+forms-of known p (power x e) i = forms-of known p x i
+forms-of known p (sum_from a x) i = each-more (InForm known false) (all_sums x) (sum_from a x) (forms-of known false x i.2) (refl, i.1, i.2)
+forms-of known p (prod_from a x) i = forms-of known true x i.2
+
+forms-all : (known : Bool) (es : List Tree) → Each (InForm known false) es → Each (InForm known false) (concatenated all_sums es)
+forms-all known [] i = tt
+forms-all known (e ∷ es) i = each-append (InForm known false) (all_sums e) (concatenated all_sums es) (forms-of known false e i.0) (forms-all known es i.1)
+
+forms-new : (P : Tree → Type 0) (seen ts : List Tree) → Each P seen → Each P ts → Each P (with_new seen ts)
+forms-new P seen [] h k = h
+forms-new P seen (t ∷ ts) h k = go (has_tree t seen) (λ next n. forms-new P next ts n k.1)
+  where
+    go : (b : Bool) → ((next : List Tree) → Each P next → Each P (with_new next ts)) → Each P (with_new (cond b seen (seen ++ t ∷ [])) ts)
+    go true again = again seen h
+    go false again = again (seen ++ t ∷ []) (each-more P seen t h k.0)
+
+pub sums-form : (known : Bool) (es : List Tree) → Each (InForm known false) es → Each (InForm known false) (sums es)
+sums-form known es i = forms-new (InForm known false) [] (concatenated all_sums es) tt (forms-all known es i)
 
 -- ---- The start
 

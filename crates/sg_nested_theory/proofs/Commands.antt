@@ -5,15 +5,17 @@
 --   sums-distinct    they have no repeats
 --   sums-form        they are in form
 --   start-above, start-small      the start is at least the lower limit, and at most 1,000 where that is
+--   few-sums         there are at most eight, where the counted limits are kept
 --   sound-command    where the bodies have values and no range runs down, a tower can be built over them
-use Rattle.std.proofs.Common.{◌≡◌, ℕ, ◌≤◌, refl, sym, ap, ◌∙◌, subst, List, [], ◌∷◌, ◌++◌, inl, inr, length, ℤ, pos, negsuc, ◌-ℤ◌, ◌≤ℤ◌, unsigned_abs, Bool, true, false, ◌&&◌, true≢false, cond, Contains, append_assoc, append-nil, arith}
+use Rattle.std.proofs.Common.{◌≡◌, ℕ, ◌≤◌, refl, sym, ap, ◌∙◌, subst, List, [], ◌∷◌, ◌++◌, inl, inr, length, ℤ, pos, negsuc, ◌-ℤ◌, ◌≤ℤ◌, unsigned_abs, Bool, true, false, ◌&&◌, true≢false, cond, Contains, Option, Some, None, append_assoc, append-nil, arith}
 use Rattle.std.proofs.lemmas.Int.{ints, int_max_is}
-use Rattle.std.proofs.lemmas.Bool.{ltb-true}
+use Rattle.std.proofs.lemmas.Bool.{ltb-true, leb-true}
 use Rattle.std.proofs.lemmas.List.Elements.{Contains-append_left, Contains-append_right, Contains-push, Contains-push_cases}
 use Rattle.sg_algebra.specs.Coefficients.{Each}
 use Rattle.sg_algebra.proofs.Value.{Value}
 use Rattle.sg_spec.specs.Tree.{Tree, numeral, here, param, add, neg, mul, div, power, sum_from, prod_from}
 use Rattle.sg_spec.specs.Generators.{has_tree, with_new, distinct, concatenated, sums, prods, all_sums, all_prods, start_of, start, same_tree}
+use Rattle.sg_spec.specs.Limits.{too_many_nodes, too_steep, too_many_sums, too_many_products, first_not, keeps_nodes, keeps_degrees, keeps_sums, keeps_products, or_else, counted}
 use Rattle.sg_spec.specs.Printing.{InForm}
 use Rattle.sg_spec.specs.Reading.{is_small}
 use Rattle.sg_spec.specs.Shape.{is_polynomial_tree, is_divisor_tree}
@@ -277,6 +279,20 @@ start-small-one known p (prod_from b x) a i h = let l = start-small-one known tr
 pub start-small : (known : Bool) (es : List Tree) (a : ℤ) → Each (InForm known false) es → a ≤ℤ pos 1000 → start es a ≤ℤ pos 1000
 start-small known [] a i h = h
 start-small known (e ∷ es) a i h = start-small known es (start_of e a) i.1 (start-small-one known false e a i.0 h)
+
+-- ---- The number of sums
+
+no-some : {A : Type 0} (x : A) → Some x ≡ None → ⊥
+no-some x e = grind (arith, e)
+
+pub few-sums : (es : List Tree) → counted es ≡ None → length (sums es) ≤ 8
+few-sums es h = go (first_not keeps_nodes es) (first_not keeps_degrees es) (keeps_sums es) (keeps_products es) refl h
+  where
+    go : (a b : Option ℕ) (c d : Bool) → keeps_sums es ≡ c → or_else too_many_nodes a (or_else too_steep b (cond c (cond d None (Some too_many_products)) (Some too_many_sums))) ≡ None → length (sums es) ≤ 8
+    go (Some i) b c d e h = absurd (no-some (too_many_nodes i) h)
+    go None (Some i) c d e h = absurd (no-some (too_steep i) h)
+    go None None false d e h = absurd (no-some too_many_sums h)
+    go None None true d e h = leb-true (length (sums es)) 8 e
 
 -- ---- Soundness
 

@@ -1,3 +1,2 @@
 pub mod Summing
 pub mod Among
-pub mod Commands

@@ -1,0 +1,3 @@
+pub mod Commands
+pub mod Building
+pub mod Fates

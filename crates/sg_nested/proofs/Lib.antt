@@ -1,0 +1,3 @@
+pub mod Facts
+pub mod Closings
+pub mod Starting

@@ -1,0 +1,4 @@
+pub mod Standing
+pub mod Sums
+pub mod Stepping
+pub mod Items

@@ -2,3 +2,4 @@ pub mod Standing
 pub mod Sums
 pub mod Stepping
 pub mod Items
+pub mod Listed

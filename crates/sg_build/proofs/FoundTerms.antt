@@ -4,8 +4,7 @@
 --   found-powers, found-term, found-terms       of a product of powers, a term, a list of terms
 --   found-coefficient      of a rational function
 --   power-inverse          a negative power
-use Rattle.std.proofs.Common.{◌≡◌, ℕ, zero, suc, Option, Some, None, IfSome, IfNone, ℤ, pos, ◌<ℤ◌, unsigned_abs, refl, sym, ap, ap₂, subst, ◌∙◌, List, [], ◌∷◌, map}
-use Rattle.sg_algebra.specs.Coefficients.{eval}
+use Rattle.std.proofs.Common.{◌≡◌, ℕ, Option, Some, None, IfSome, IfNone, ℤ, pos, ◌<ℤ◌, unsigned_abs, refl, sym, ap, subst, ◌∙◌, List, [], ◌∷◌, map}
 use Rattle.sg_algebra.proofs.PolynomialLowest.{monic_ne}
 use Rattle.sg_algebra.proofs.Rational.{whole_value}
 use Rattle.sg_algebra.proofs.Ring.{pow}

@@ -13,7 +13,6 @@ use Rattle.sg_algebra.proofs.Value.{Value, ◌+ᵛ◌, ◌-ᵛ◌, ◌*ᵛ◌, �
 use Rattle.sg_algebra.proofs.ValueField.{ValueR}
 use Rattle.sg_ratfun.proofs.Quotients.{over_equal}
 use Rattle.sg_spec.specs.Tree.{Tree, numeral, here, param, add, neg, mul, power}
-use Rattle.sg_spec.specs.Worth.{HasWorth}
 use Rattle.sg_value_theory.proofs.Elements.{IsQuotientAt}
 use Rattle.sg_value_theory.proofs.Evaluation.{pow_has}
 use Rattle.sg_value_theory.proofs.Moving.{inverse-has}

@@ -3,22 +3,21 @@
 --   polynomial-some                             a polynomial among them has somewhere a value other than 0
 --   function-inverse, inverted-polynomial, inverted-item, ..     the inverse by cases
 --   item-unit                                   the element of a product is a unit
-use Rattle.std.proofs.Common.{◌≡◌, ℕ, zero, suc, ◌+◌, ◌<◌, ◌≤◌, refl, sym, ap, ap₂, subst, ◌∙◌, List, [], ◌∷◌, ◌++◌, length, get_or, arith}
+use Rattle.std.proofs.Common.{◌≡◌, ℕ, zero, suc, ◌+◌, ◌<◌, sym, ap, subst, ◌∙◌, List, [], ◌∷◌, ◌++◌, length, get_or, arith}
 use Rattle.std.proofs.lemmas.List.{length-append}
 use Rattle.sg_algebra.specs.Ring.{Ring}
 use Rattle.sg_algebra.proofs.Ring.{pow}
-use Rattle.sg_algebra.proofs.Value.{Value, ◌*ᵛ◌, ◌/ᵛ◌, neg_value, inv_value, zero_value, one_value}
+use Rattle.sg_algebra.proofs.Value.{Value, ◌*ᵛ◌, neg_value, inv_value, zero_value}
 use Rattle.sg_algebra.proofs.ValueField.{ValueR}
-use Rattle.sg_spec.specs.Tree.{Tree, here, add, neg, mul, div, power, sum_from, prod_from}
-use Rattle.sg_spec.specs.Worth.{HasWorth}
+use Rattle.sg_spec.specs.Tree.{Tree, neg, mul, power}
 use Rattle.sg_tower_theory.proofs.Formal.{elements, lifted}
-use Rattle.sg_value_theory.proofs.Elements.{Point, IsQuotientAt, HasElement}
+use Rattle.sg_value_theory.proofs.Elements.{HasElement}
 use Rattle.sg_value_theory.proofs.Evaluation.{pow_has}
 use Rattle.sg_value_theory.proofs.Evaluations.{evaluation, lifted-has}
 use Rattle.sg_value_theory.proofs.Inverses.{unit-has}
 use Rattle.sg_tower.specs.Elements.{Reading, Same, IsOne, IsProduct}
 use Rattle.sg_tower.specs.Terms.{IsInverse}
-use Rattle.sg_build.specs.Points.{KnownAt, IsUnit, AreUnits}
+use Rattle.sg_build.specs.Points.{IsUnit, AreUnits}
 use Rattle.sg_build.specs.Placed.{IsItem, IsOpposite, IsPower, IsFunctionOver, HasSomeValue, IsElementOver, IsInvertible, IsInverted}
 use Rattle.sg_build.proofs.InverseValues.{some-neg, some-left, some-right, some-base, inverse-neg, inverse-mul, inverse-one, inverse-pow}
 use Rattle.sg_build.proofs.PlacedParts.{known-length, item-at}

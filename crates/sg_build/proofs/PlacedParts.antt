@@ -4,20 +4,19 @@
 --   item-at, item-left, item-right, item-found, item-tree, contains-place     an item and its expression
 --   function-element, placed-item, placed-polynomial, placed-sum, ..       the element of a compound from those of its parts
 --   is-opposite, power-none, power-even, power-odd     opposites and powers
-use Rattle.std.proofs.Common.{◌≡◌, ℕ, zero, suc, ◌+◌, ◌-◌, ◌<◌, ◌≤◌, ◌/◌, ◌%◌, refl, sym, ap, ap₂, subst, ◌∙◌, List, [], ◌∷◌, ◌++◌, length, map, take, drop, get_or, Contains, ◌⊎◌, inl, inr, arith}
+use Rattle.std.proofs.Common.{◌≡◌, ℕ, zero, suc, ◌+◌, ◌-◌, ◌<◌, ◌≤◌, ◌/◌, ◌%◌, refl, sym, ap, subst, ◌∙◌, List, [], ◌∷◌, ◌++◌, length, map, take, drop, get_or, Contains, ◌⊎◌, inl, inr, arith}
 use Rattle.std.proofs.lemmas.List.{get_or_append_left, get_or-append-add, get_or-drop, get_or-map, length-append, length-map, length-drop, take_all}
 use Rattle.sg_algebra.specs.Ring.{Ring}
-use Rattle.sg_algebra.proofs.Ring.{pow, pow-add, pow_cong}
+use Rattle.sg_algebra.proofs.Ring.{pow, pow-add}
 use Rattle.sg_algebra.proofs.Value.{Value, inv_value}
-use Rattle.sg_spec.specs.Tree.{Tree, here, add, neg, mul, div, power, sum_from, prod_from}
-use Rattle.sg_spec.specs.Worth.{HasWorth}
+use Rattle.sg_spec.specs.Tree.{Tree, here, add, neg, mul, div, power}
 use Rattle.sg_expr.specs.Tree.{tree_of}
 use Rattle.sg_expr.specs.declared.tree.Expr.{Expr}
 use Rattle.sg_tower_theory.proofs.Formal.{elements, lifted}
-use Rattle.sg_value_theory.proofs.Elements.{Point, IsQuotientAt, HasElement}
+use Rattle.sg_value_theory.proofs.Elements.{Point, HasElement}
 use Rattle.sg_value_theory.proofs.Evaluations.{evaluation, lifted-has}
 use Rattle.sg_value_theory.proofs.OwnSums.{contains_cons, nothing}
-use Rattle.sg_value_theory.proofs.Placing.{agrees-add, agrees-neg, agrees-mul, agrees-power, agrees-power_zero, agrees-div, agrees_same}
+use Rattle.sg_value_theory.proofs.Placing.{agrees-add, agrees-neg, agrees-mul, agrees-power, agrees-power_zero, agrees_same}
 use Rattle.sg_value_theory.proofs.TreePoints.{Agrees}
 use Rattle.sg_tower.specs.Elements.{Reading, Same, IsZero, IsOne, IsCopy, IsSum, IsDifference, IsProduct}
 use Rattle.sg_build.specs.Points.{KnownAt, IsPlaced}

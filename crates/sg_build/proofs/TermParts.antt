@@ -3,14 +3,14 @@
 --   sum-of-terms, ..   the value of a list of terms by cases
 --   element-terms      where an element has a value at a point with these values, its terms have it
 --   terms-element      where its terms have one, the element has it at each such point
-use Rattle.std.proofs.Common.{◌≡◌, ℕ, zero, suc, ◌+◌, ◌-◌, ◌<◌, ◌≤◌, ◌⊎◌, inl, inr, zero-add, get_or, ℤ, pos, negsuc, ◌≤ℤ◌, ◌<ℤ◌, unsigned_abs, refl, sym, ap, ap₂, subst, ◌∙◌, List, [], ◌∷◌, ◌++◌, length, map, reverse, take, drop, arith}
+use Rattle.std.proofs.Common.{◌≡◌, ℕ, zero, suc, ◌+◌, ◌-◌, ◌<◌, ◌≤◌, ◌⊎◌, inl, inr, zero-add, get_or, ℤ, pos, negsuc, ◌≤ℤ◌, ◌<ℤ◌, unsigned_abs, refl, sym, ap, ap₂, subst, ◌∙◌, List, [], ◌∷◌, ◌++◌, length, reverse, take, drop, arith}
 use Rattle.std.proofs.lemmas.Int.{ints}
 use Rattle.std.proofs.Math.Path.{fun_ext}
 use Rattle.std.proofs.lemmas.List.{length-reverse, length-take, length-drop, reverse-append, reverse-reverse, take-append-drop, get_or-drop}
 use Rattle.sg_algebra.specs.Coefficients.{Each}
 use Rattle.sg_algebra.proofs.Polynomial.{coefficient}
 use Rattle.sg_algebra.proofs.Ring.{pow}
-use Rattle.sg_algebra.proofs.Solver.{ring, by, scale, reads}
+use Rattle.sg_algebra.proofs.Solver.{ring, reads}
 use Rattle.sg_algebra.proofs.Value.{Value, ◌+ᵛ◌, ◌*ᵛ◌, inv_value, zero_value, one_value}
 use Rattle.sg_algebra.proofs.ValueField.{ValueR, ValueF}
 use Rattle.sg_tower_theory.specs.Powers.{power}
@@ -22,7 +22,7 @@ use Rattle.sg_value_theory.proofs.FlatValues.{units_value, powers_at, HasFlat, A
 use Rattle.sg_value_theory.proofs.FlatTerms.{flat-value, fits_flat}
 use Rattle.sg_value_theory.proofs.Lists.{each-more, each-at}
 use Rattle.sg_build.specs.Points.{IsPointAt}
-use Rattle.sg_build.specs.TermValues.{IsPowerOf, ArePowers, IsTermAt, AreTermsAt}
+use Rattle.sg_build.specs.TermValues.{IsPowerOf, ArePowers, AreTermsAt}
 
 low_or_high : (i n : ℕ) → (i < n) ⊎ (n ≤ i)
 low_or_high i zero = inr (omega arith)

@@ -3,13 +3,12 @@
 --   none-over                        a quotient by 0 has no value
 --   fold-none                        where a term has no value the sum or product has none
 --   zero-less, power-even, power-odd  opposites and powers
-use Rattle.std.proofs.Common.{◌≡◌, ℕ, zero, suc, ◌+◌, ◌<◌, ◌/◌, ◌%◌, ◌⊎◌, inl, inr, Option, Some, None, ℤ, pos, ◌+ℤ◌, refl, sym, ap, ap₂, subst, ◌∙◌, [], ◌∷◌, arith}
-use Rattle.sg_algebra.proofs.Rational.{whole_value}
+use Rattle.std.proofs.Common.{◌≡◌, ℕ, zero, suc, ◌+◌, ◌<◌, ◌/◌, ◌%◌, ◌⊎◌, inl, inr, Option, Some, None, ℤ, pos, ◌+ℤ◌, refl, sym, ap, subst, ◌∙◌, [], ◌∷◌, arith}
 use Rattle.sg_algebra.proofs.Ring.{pow, pow-add}
 use Rattle.sg_algebra.proofs.Solver.{ring, reads}
-use Rattle.sg_algebra.proofs.Value.{Value, ◌+ᵛ◌, ◌-ᵛ◌, ◌*ᵛ◌, ◌/ᵛ◌, neg_value, zero_value}
+use Rattle.sg_algebra.proofs.Value.{Value, ◌+ᵛ◌, ◌-ᵛ◌, ◌*ᵛ◌, neg_value, zero_value}
 use Rattle.sg_algebra.proofs.ValueField.{ValueR}
-use Rattle.sg_spec.specs.Tree.{Tree, numeral, here, param, add, neg, mul, div, power}
+use Rattle.sg_spec.specs.Tree.{Tree, add, mul, div}
 use Rattle.sg_spec.specs.Worth.{IsFolded, HasWorth}
 use Rattle.sg_build.specs.Found.{Finds, IsBoth}
 use Rattle.sg_written.proofs.Worths.{worth_unique}

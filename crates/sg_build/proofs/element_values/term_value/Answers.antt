@@ -1,5 +1,4 @@
-use Rattle.std.proofs.Common.{◌≡◌, ℤ, List, map, subst}
-use Rattle.sg_ratfun.specs.Fractions.{ratio}
+use Rattle.std.proofs.Common.{ℤ, List, map, subst}
 use Rattle.sg_tower.specs.Terms.{term_of}
 use Rattle.sg_build.specs.Found.{Finds}
 use Rattle.sg_build.specs.TermValues.{ArePowers}

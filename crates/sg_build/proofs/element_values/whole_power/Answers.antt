@@ -1,4 +1,4 @@
-use Rattle.std.proofs.Common.{◌≡◌, ℤ, pos, ◌≤ℤ◌, ◌<ℤ◌, unsigned_abs, ap, ◌∙◌, rules}
+use Rattle.std.proofs.Common.{◌≡◌, pos, ◌≤ℤ◌, ◌<ℤ◌, unsigned_abs, ap, ◌∙◌, rules}
 use Rattle.sg_algebra.proofs.Ring.{pow}
 use Rattle.sg_algebra.proofs.Value.{zero_value}
 use Rattle.sg_algebra.proofs.ValueField.{ValueR}

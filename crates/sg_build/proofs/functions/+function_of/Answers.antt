@@ -1,5 +1,4 @@
-use Rattle.std.proofs.Common.{◌≡◌, ap, subst}
-use Rattle.sg_algebra.proofs.Rational.{whole_value}
+use Rattle.std.proofs.Common.{ap, subst}
 use Rattle.sg_spec.specs.Tree.{Tree}
 use Rattle.sg_expr.specs.Tree.{tree_of}
 use Rattle.sg_ratfun.specs.Fractions.{ratio}

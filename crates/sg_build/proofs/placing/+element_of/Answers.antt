@@ -1,4 +1,4 @@
-use Rattle.std.proofs.Common.{◌≡◌, ◌++◌, List, map, sym, ap, subst, arith}
+use Rattle.std.proofs.Common.{◌++◌, List, map, sym, ap, subst, arith}
 use Rattle.std.proofs.lemmas.List.{length-map}
 use Rattle.sg_spec.specs.Limits.{nodes}
 use Rattle.sg_spec.specs.Tree.{Tree}

@@ -1,4 +1,4 @@
-use Rattle.std.proofs.Common.{◌≡◌, ℕ, ◌<◌, sym, ◌∙◌, map, true≢false, below_more, arith}
+use Rattle.std.proofs.Common.{◌<◌, sym, ◌∙◌, map, true≢false, below_more, arith}
 use Rattle.std.proofs.lemmas.List.{length-map}
 use Rattle.sg_expr.specs.Tree.{tree_of}
 use Rattle.sg_build.proofs.PlacedParts.{item-found, item-tree, contains-place}

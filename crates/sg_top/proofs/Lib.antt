@@ -2,3 +2,4 @@ pub mod Sending
 pub mod Parted
 pub mod Defined
 pub mod Replies
+pub mod Listing

@@ -13,7 +13,8 @@ use Rattle.sg_spec.specs.Polynomials.{IsPolynomial}
 use Rattle.sg_spec.specs.Printing.{InForm}
 use Rattle.sg_spec.specs.Parts.{Part, Role, anywhere, divides, is_body, parts, own_part}
 use Rattle.sg_spec.specs.Faults.{Numbered, with_item, parts_from, First, AreSpared}
-use Rattle.sg_top.specs.Stages.{IsRational}
+use Rattle.sg_top.specs.Stages.{HasNoProduct}
+use Rattle.sg_top.specs.Taking.{IsRational}
 
 -- ---- Without sums and products
 
@@ -31,6 +32,9 @@ not_empty (y ∷ a) x h = cc
 
 pub not_true : false ≡ true → ⊥
 not_true e = cc
+
+pub left_plain : (x y : Tree) → HasNoProduct (add x y) → HasNoProduct x
+left_plain x y h = left_empty (all_prods x) (all_prods y) h
 
 pub both_rational : (x y : Tree) → IsRational x → IsRational y → IsRational (add x y)
 both_rational x y h k = (ap₂ ◌++◌ h.0 k.0, ap₂ ◌++◌ h.1 k.1)

@@ -4,13 +4,15 @@
 --   lone                        the expression of one item
 --   read-form                   what is read is in reader's form
 --   later-reply, closed-reply, none-reply, wide-reply     the replies to a sum
+--   nested-closed, nested-none      those over sums
+--   not-narrow                      what is no polynomial may be wide
 --   pole-taken                  what the search for poles answers is one
 --   far-form, pole-form, factor-form             the part of a pole can be printed
 --   far-refusal, pole-refusal, factor-refusal    the lines of poles
 --   stop-keeps, stop-heavy      a step that doesn't fit in their place
 --   value-reply                 the replies of an evaluation
 --   texts-one                   each command has one text
-use Rattle.std.proofs.Common.{◌≡◌, ℕ, zero, suc, ◌+◌, ◌<◌, ℤ, List, [], ◌∷◌, ◌++◌, length, take, drop, get_or, map, Option, Some, None, codes, pos, refl, sym, ap, subst, ◌∙◌, ◌⊎◌, false, inl, inr, arith, add-one}
+use Rattle.std.proofs.Common.{◌≡◌, ℕ, zero, suc, ◌+◌, ◌<◌, ℤ, List, [], ◌∷◌, ◌++◌, length, take, drop, get_or, map, Option, Some, None, codes, pos, refl, sym, ap, ap₂, subst, ◌∙◌, ◌⊎◌, false, inl, inr, arith, add-one}
 use Rattle.std.proofs.Math.Seq.{take-suc, drop-cons}
 use Rattle.std.proofs.lemmas.List.{take-append-drop, map-append, length-map}
 use Rattle.std.specs.Prelude.{All}
@@ -22,7 +24,7 @@ use Rattle.sg_num.specs.declared.rat.Rat.{Rat}
 use Rattle.sg_spec.specs.Closed.{Closed}
 use Rattle.sg_spec.specs.Canonical.{IsCanonicalOver}
 use Rattle.sg_spec.specs.Faults.{Numbered, parts_from, IsFarNumbered, Vanishes, far_pole, pole, zero_factor}
-use Rattle.sg_spec.specs.Generators.{Over, sums, prods}
+use Rattle.sg_spec.specs.Generators.{Over, sums, prods, start}
 use Rattle.sg_spec.specs.Parts.{divides, is_body}
 use Rattle.sg_spec.specs.Polynomials.{IsPolynomial}
 use Rattle.sg_spec.specs.Printing.{InForm}
@@ -40,12 +42,13 @@ use Rattle.sg_value.specs.Answer.{IsValue}
 use Rattle.sg_words.specs.Words.{IsCommand}
 use Rattle.sg_words.specs.declared.asked.Command.{Command}
 use Rattle.sg_words.specs.declared.asked.Command.TheVariants.{Sum, Value, ValueAtParameter}
-use Rattle.sg_top.specs.Lines.{refusal_words, item_line, closed_line, letters_at, part_text}
-use Rattle.sg_top.specs.Stages.{input_bounds, letters_of, AreRead, IsRational, IsTaken}
+use Rattle.sg_top.specs.Lines.{refusal_words, item_line, closed_line, none_line, letters_at, part_text}
+use Rattle.sg_nested.specs.Commands.{IsFirstClosed, HasNoFirst}
+use Rattle.sg_top.specs.Stages.{input_bounds, letters_of, AreRead, HasNoProduct, IsTaken}
 use Rattle.sg_top.specs.Refusals.{IsTextRefusal, IsPoleRefusal, IsSpared, HasHeavyPart}
 use Rattle.sg_top.specs.Output.{IsValueOutput, IsNarrow}
 use Rattle.sg_top.specs.Answer.{IsCountedReply, IsTakenReply}
-use Rattle.sg_top.specs.Taking.{AreInForm, IsStopped, IsPoleReply, IsValueLine, IsEvaluated}
+use Rattle.sg_top.specs.Taking.{AreInForm, IsStopped, IsPoleReply, IsValueLine, IsEvaluated, IsRational, IsNoPolynomial}
 use Rattle.sg_top.specs.declared.status.Status.{Status}
 use Rattle.sg_top.specs.declared.status.Status.TheVariants.{Done, No, Refused}
 use Rattle.sg_top.proofs.Parted.{no_sums, no_products, none_spared, first_form}
@@ -113,10 +116,10 @@ one : {X : Type 0} (P : X → Type 0) (x : X) → P x → All P (x ∷ [])
 one P x p zero d h = p
 one P x p (suc k) d h = absurd (omega arith)
 
-pub later-reply : (a : ℤ) (f : Tree) (line : List ℕ) → (IsRational f → ⊥) → line ≡ item_line (codes "later") 1 → IsCountedReply (Sum a) (f ∷ []) Refused line
+pub later-reply : (a : ℤ) (f : Tree) (line : List ℕ) → (HasNoProduct f → ⊥) → line ≡ item_line (codes "later") 1 → IsCountedReply (Sum a) (f ∷ []) Refused line
 later-reply a f line h is = inl (refl, record { before = []; expression = f; after = []; split = refl; taken = none (IsTaken (Sum a)); not_taken = h; is = is })
 
-pub taken-reply : (a : ℤ) (f : Tree) (status : Status) (line : List ℕ) → IsRational f → IsTakenReply (Sum a) (f ∷ []) status line → IsCountedReply (Sum a) (f ∷ []) status line
+pub taken-reply : (a : ℤ) (f : Tree) (status : Status) (line : List ℕ) → HasNoProduct f → IsTakenReply (Sum a) (f ∷ []) status line → IsCountedReply (Sum a) (f ∷ []) status line
 taken-reply a f status line h reply = inr (one (IsTaken (Sum a)) f h, reply)
 
 pub closed-reply : (a : ℤ) (f h : Tree) (status : Status) (line : List ℕ) → IsRational f → IsSpared (Sum a) (f ∷ []) → Closed f [] a h a → IsCanonicalOver [] [] h
@@ -129,15 +132,31 @@ pub none-reply : (a : ℤ) (f : Tree) (status : Status) (line : List ℕ) → Is
     → IsTakenReply (Sum a) (f ∷ []) status line
 none-reply a f status line rational spared never done is =
     let none_over : (e : Tree) → Over (sums (f ∷ [])) e → ¬ Tele e f = rw (no_sums f rational) never in
-    inr (inr (spared, inr (record { status_is = done; none = none_over; is = is })))
+    let own : none_line (prods (f ∷ []) ++ sums (f ∷ [])) ≡ codes "none over k\n" = rw (no_products f rational, no_sums f rational) refl in
+    inr (inr (spared, inr (record { status_is = done; none = none_over; is = is ∙ sym own })))
 
-pub wide-reply : (a : ℤ) (f : Tree) (status : Status) (line : List ℕ) → (IsSpared (Sum a) (f ∷ []) ⊎ HasHeavyPart (Sum a) (f ∷ [])) → IsStopped status line → (IsNarrow (Sum a) (f ∷ []) → ⊥)
-    → IsTakenReply (Sum a) (f ∷ []) status line
-wide-reply a f status line spared s narrow = inr (inl (s.wide, record { step = s.step; cause = s.too_wide; spared = spared; not_narrow = narrow; is = s.is }))
+pub wide-reply : (a : ℤ) (es : List Tree) (status : Status) (line : List ℕ) → (IsSpared (Sum a) es ⊎ HasHeavyPart (Sum a) es) → IsStopped status line → (IsNarrow (Sum a) es → ⊥) → IsTakenReply (Sum a) es status line
+wide-reply a es status line spared s narrow = inr (inl (s.wide, record { step = s.step; cause = s.too_wide; spared = spared; not_narrow = narrow; is = s.is }))
+
+pub not-narrow : (a : ℤ) (es : List Tree) → Each IsNoPolynomial es → IsNarrow (Sum a) es → ⊥
+not-narrow a [] h n = n
+not-narrow a (f ∷ []) h n = h.0 n.0
+not-narrow a (f ∷ (g ∷ es)) h n = n
+
+pub nested-closed : (a : ℤ) (es : List Tree) (s : ℤ) (h : Tree) (status : Status) (line : List ℕ) → IsSpared (Sum a) es → s ≡ start es a → IsFirstClosed a es h → IsCanonicalOver (prods es) (sums es) h
+    → Reads (printed (codes "m") h) (codes "m") h → status ≡ Done → line ≡ closed_line (printed (codes "m") h) s → IsTakenReply (Sum a) es status line
+nested-closed a [] s h status line spared e closed canonical back done is = absurd closed
+nested-closed a (f ∷ others) s h status line spared e closed canonical back done is =
+    inr (inr (spared, inl (record { status_is = done; form = h; first = start (f ∷ others) a; closed = closed; canonical = canonical; reads_back = back; is = is ∙ ap (closed_line (printed (codes "m") h)) e })))
+
+pub nested-none : (a : ℤ) (es ps ss : List Tree) (status : Status) (line : List ℕ) → IsSpared (Sum a) es → ps ≡ prods es → ss ≡ sums es → HasNoFirst es → status ≡ No → line ≡ none_line (ps ++ ss) → IsTakenReply (Sum a) es status line
+nested-none a [] ps ss status line spared p q never done is = absurd never
+nested-none a (f ∷ others) ps ss status line spared p q never done is =
+    inr (inr (spared, inr (record { status_is = done; none = never; is = is ∙ ap₂ (λ (x y : List Tree). none_line (x ++ y)) p q })))
 
 pub pole-taken : (a : ℤ) (f : Tree) (status : Status) (line : List ℕ) → (IsPolynomial f → ⊥) → IsPoleReply a (f ∷ []) status line → IsTakenReply (Sum a) (f ∷ []) status line
 pole-taken a f status line fraction (inl refusal) = inl refusal
-pole-taken a f status line fraction (inr (s, heavy)) = wide-reply a f status line (inr heavy) s (λ n. fraction n.0)
+pole-taken a f status line fraction (inr (s, heavy)) = wide-reply a (f ∷ []) status line (inr heavy) s (λ n. fraction n.0)
 
 -- ---- Poles
 

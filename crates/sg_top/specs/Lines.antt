@@ -1,5 +1,7 @@
 -- The lines of answers.
 --   closed_line     `closed <h> from <s>`
+--   listed          the texts of products and sums, each after a comma and a blank
+--   none_line       `none over k, <products>, <sums>`
 --   wide_line       `wide <op> <left> <right>`
 --   item_line       `refused <what> item <i>`, of the i-th text, counted from 1
 --   placed          a kind of fault and its place
@@ -25,6 +27,13 @@ use Rattle.sg_text.specs.RationalText.{rational_text}
 
 abbrev pub closed_line : List ℕ → ℤ → List ℕ
 closed_line h start = codes "closed " ++ h ++ codes " from " ++ signed_decimal start ++ codes "\n"
+
+abbrev pub listed : List Tree → List ℕ
+listed [] = []
+listed (g ∷ gs) = codes ", " ++ printed (codes "k") g ++ listed gs
+
+abbrev pub none_line : List Tree → List ℕ
+none_line gens = codes "none over k" ++ listed gens ++ codes "\n"
 
 abbrev pub op_word : Op → List ℕ
 op_word Add = codes "add"

@@ -1,6 +1,6 @@
 -- What an answer says of the expressions of a command's texts, once no refusal touches them.
 --   IsClosedLine      `closed <h> from <s>`: h is a canonical closed form, whose text is the one that is printed for it
---   IsNoneLine        `none over k`: no expression over the sums of the texts telescopes f, from no point on
+--   IsNoneLine        `none over k, <sums>`: no expression over the sums of the texts, which may stand in divisors, telescopes f, from no point on
 --   IsFractionLine    the value of an expression, in lowest terms
 --   IsNoValueLine     `no value`: it has none
 --   IsDefined         the defined answer; a line a command
@@ -27,7 +27,7 @@ use Rattle.sg_text.specs.RationalText.{rational_text}
 use Rattle.sg_value.specs.Answer.{step_of}
 use Rattle.sg_words.specs.declared.asked.Command.{Command}
 use Rattle.sg_words.specs.declared.asked.Command.TheVariants.{Sum, Value, ValueAtParameter}
-use Rattle.sg_top.specs.Lines.{closed_line}
+use Rattle.sg_top.specs.Lines.{closed_line, none_line}
 use Rattle.sg_top.specs.declared.status.Status.{Status}
 use Rattle.sg_top.specs.declared.status.Status.TheVariants.{Done, No}
 
@@ -43,7 +43,7 @@ pub record IsClosedLine (a : ℤ) (f : Tree) (others : List Tree) (status : Stat
 pub record IsNoneLine (f : Tree) (others : List Tree) (status : Status) (out : List ℕ) : Type 0 where
   pub status_is : status ≡ No
   pub none : (e : Tree) → Over (sums (f ∷ others)) e → ¬ Tele e f
-  pub is : out ≡ codes "none over k\n"
+  pub is : out ≡ none_line (prods (f ∷ others) ++ sums (f ∷ others))
 
 pub record IsFractionLine (v : Option Fraction) (status : Status) (out : List ℕ) : Type 0 where
   pub status_is : status ≡ Done

@@ -3,11 +3,11 @@
 --   letters_of      the letters of the texts: the variable's and, where there is one, the parameter's
 --   lower_of        the lower limit from which on expressions must have values; `value` asks for none
 --   AreRead         the texts read as these trees, one for one
---   IsRational      without sums and products
---   IsTaken         the command answers expressions like this one so far: `sum` those without sums and products
+--   HasNoProduct    without products
+--   IsTaken         the command answers expressions like this one so far: `sum` those without products
 use Rattle.std.specs.Prelude.{◌≡◌, ℕ, nat_le, ℤ, Option, Some, None, List, [], ◌∷◌, codes}
 use Rattle.sg_spec.specs.Tree.{Tree}
-use Rattle.sg_spec.specs.Generators.{all_sums, all_prods}
+use Rattle.sg_spec.specs.Generators.{all_prods}
 use Rattle.sg_spec.specs.Reading.{Bounds, IsRead}
 use Rattle.sg_words.specs.declared.asked.Command.{Command}
 use Rattle.sg_words.specs.declared.asked.Command.TheVariants.{Sum, Value, ValueAtParameter}
@@ -31,10 +31,10 @@ AreRead c [] (e ∷ es) = ⊥
 AreRead c (text ∷ texts) [] = ⊥
 AreRead c (text ∷ texts) (e ∷ es) = IsRead input_bounds (letters_of c) text e × AreRead c texts es
 
-abbrev pub IsRational : Tree → Type 0
-IsRational e = (all_sums e ≡ []) × (all_prods e ≡ [])
+abbrev pub HasNoProduct : Tree → Type 0
+HasNoProduct e = all_prods e ≡ []
 
 abbrev pub IsTaken : Command → Tree → Type 0
-IsTaken (Sum a) e = IsRational e
+IsTaken (Sum a) e = HasNoProduct e
 IsTaken (Value k) e = Unit {0}
 IsTaken (ValueAtParameter n k) e = Unit {0}

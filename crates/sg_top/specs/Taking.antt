@@ -2,17 +2,22 @@
 --   IsReadAs       their expressions; or the line of the first text that isn't read
 --   IsOutcome      their expressions, which keep the counted limits; or the line of a refusal
 --   AreInForm      expressions as they are read
+--   IsRational     without sums and products
+--   IsNoPolynomial no polynomial
+--   IsLimited      a lower limit is from -1,000 to 1,000
 --   IsStopped      the reply of a step that doesn't fit
 --   IsPoleCause    what the search for poles tells once the counted limits are kept
 --   IsPoleReply    its reply: the line of a refusal; or a step that doesn't fit, where a part is heavy
 --   IsValueLine    the reply of a value, or of no value
 --   IsStepOf       the line of the first step of an evaluation that doesn't fit
 --   IsEvaluated    the reply of an evaluation of an expression for a parameter and a variable
-use Rattle.std.specs.Prelude.{◌≡◌, ℕ, List, [], ◌∷◌, ◌++◌, map, ℤ, false, Option, Some, None, ◌⊎◌, codes}
+use Rattle.std.specs.Prelude.{◌≡◌, ℕ, List, [], ◌∷◌, ◌++◌, map, ℤ, pos, negsuc, ◌≤ℤ◌, false, Option, Some, None, ◌⊎◌, codes}
 use Rattle.sg_spec.specs.Tree.{Tree}
 use Rattle.sg_spec.specs.Steps.{steps, IsFirstMisfit}
 use Rattle.sg_algebra.specs.Coefficients.{Each}
+use Rattle.sg_spec.specs.Generators.{all_sums, all_prods}
 use Rattle.sg_spec.specs.Limits.{counted}
+use Rattle.sg_spec.specs.Polynomials.{IsPolynomial}
 use Rattle.sg_spec.specs.Printing.{has_parameter, InForm}
 use Rattle.sg_limits.specs.Counts.{IsFault}
 use Rattle.sg_limits.specs.declared.fault.LimitFault.{LimitFault}
@@ -24,7 +29,7 @@ use Rattle.sg_text.specs.RationalText.{rational_text}
 use Rattle.sg_expr.specs.Tree.{tree_of}
 use Rattle.sg_value.specs.Answer.{step_of}
 use Rattle.sg_words.specs.declared.asked.Command.{Command}
-use Rattle.sg_words.specs.declared.asked.Command.TheVariants.{Sum}
+use Rattle.sg_words.specs.declared.asked.Command.TheVariants.{Sum, Value, ValueAtParameter}
 use Rattle.sg_top.specs.Lines.{wide_line}
 use Rattle.sg_top.specs.Stages.{letters_of, AreRead}
 use Rattle.sg_top.specs.Refusals.{IsTextRefusal, IsCountRefusal, IsPoleRefusal, HasHeavyPart}
@@ -44,6 +49,17 @@ IsOutcome c texts (Line line) = IsTextRefusal c texts line.items ⊎ ((es : List
 
 abbrev pub AreInForm : Command → List Tree → Type 0
 AreInForm c es = Each (InForm (has_parameter (letters_of c)) false) es
+
+abbrev pub IsRational : Tree → Type 0
+IsRational e = (all_sums e ≡ []) × (all_prods e ≡ [])
+
+abbrev pub IsNoPolynomial : Tree → Type 0
+IsNoPolynomial e = IsPolynomial e → ⊥
+
+abbrev pub IsLimited : Command → Type 0
+IsLimited (Sum a) = (negsuc 999 ≤ℤ a) × (a ≤ℤ pos 1000)
+IsLimited (Value k) = Unit {0}
+IsLimited (ValueAtParameter n k) = Unit {0}
 
 pub record IsStopped (status : Status) (line : List ℕ) : Type 0 where
   pub wide : status ≡ Wide

@@ -2,7 +2,7 @@ ghost use Rattle.std.specs.Prelude.{◌≡◌, None, IfOk, length, map, string_b
 ghost use Rattle.sg_expr.specs.Tree.{tree_of};
 ghost use Rattle.sg_spec.specs.Limits.{counted};
 ghost use Rattle.sg_top.specs.Answer.{IsReply, IsCountedReply, Input, IsAnswer};
-ghost use Rattle.sg_top.specs.Taking.{AreInForm};
+ghost use Rattle.sg_top.specs.Taking.{AreInForm, IsLimited};
 
 use crate::Status;
 use crate::reply::Reply;
@@ -32,7 +32,8 @@ pub fn reply_to(alloc: Global, words: &[String]) -> Result<Reply, AllocError>
 
 // The answer to a command for its text.
 fn command_reply(alloc: Global, command: Command, texts: &[String]) -> Result<Reply, AllocError>
-    requires { length texts.now ≡ 1 }
+    requires one { length texts.now ≡ 1 }
+    requires limit { IsLimited command }
     ensures { IfOk result (λ r. IsReply command (map string_bytes texts.now) r.status r.text.items) }
 {
     match take(alloc, command, texts)? {
@@ -49,6 +50,7 @@ fn output(alloc: Global, command: Command, items: &Row<Expr>) -> Result<Reply, A
     requires one { length items.now ≡ 1 }
     requires form { AreInForm command (map tree_of items.now) }
     requires kept { counted (map tree_of items.now) ≡ None }
+    requires limit { IsLimited command }
     ensures { IfOk result (λ r. IsCountedReply command (map tree_of items.now) r.status r.text.items) }
 {
     let e = items.get(0);

@@ -36,6 +36,16 @@ impl Reply {
         }
     }
 
+    /// That there is none of what was asked for.
+    pub fn no(text: Vec<u8>) -> Reply
+        ensures { result ≡ record { text = text; status = Status.No } }
+    {
+        Reply {
+            text,
+            status: Status::No,
+        }
+    }
+
     /// The line of a refusal.
     pub fn refused(text: Vec<u8>) -> Reply
         ensures { result ≡ record { text = text; status = Status.Refused } }

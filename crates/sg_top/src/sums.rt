@@ -1,17 +1,19 @@
-ghost use Rattle.std.specs.Prelude.{◌≡◌, ◌↔◌, [], ◌∷◌, IfOk, IsTrue, None, length, map, codes, false};
+ghost use Rattle.std.specs.Prelude.{◌≡◌, ◌↔◌, [], ◌∷◌, ◌++◌, pos, negsuc, ◌≤ℤ◌, IfOk, IsTrue, Some, None, length, map, codes, false};
 ghost use Rattle.sg_algebra.specs.Coefficients.{Each};
 ghost use Rattle.sg_expr.specs.Tree.{tree_of};
 ghost use Rattle.sg_spec.specs.Limits.{counted};
 ghost use Rattle.sg_spec.specs.Polynomials.{IsPolynomial};
 ghost use Rattle.sg_spec.specs.Printing.{InForm};
 ghost use Rattle.sg_spec.specs.Reading.{Reads};
+ghost use Rattle.sg_limits.specs.Counts.{AreFacts};
 ghost use Rattle.sg_text.specs.PrintedText.{printed};
 ghost use Rattle.sg_words.specs.declared.asked.Command.TheVariants.{Sum};
 ghost use Rattle.sg_top.specs.Answer.{IsCountedReply, IsTakenReply};
-ghost use Rattle.sg_top.specs.Lines.{closed_line};
+ghost use Rattle.sg_top.specs.Lines.{closed_line, listed, none_line};
 ghost use Rattle.sg_top.specs.Refusals.{IsSpared};
-ghost use Rattle.sg_top.specs.Stages.{IsRational};
-ghost use Rattle.sg_top.specs.declared.status.Status.TheVariants.{Done};
+ghost use Rattle.sg_top.specs.Stages.{HasNoProduct};
+ghost use Rattle.sg_top.specs.Taking.{IsRational, IsNoPolynomial};
+ghost use Rattle.sg_top.specs.declared.status.Status.TheVariants.{Done, No};
 
 use crate::Status;
 use crate::lines::{closed_text, item_text};
@@ -19,18 +21,21 @@ use crate::poles::pole_reply;
 use crate::reply::Reply;
 use sg_closing::rational_closed;
 use sg_expr::Expr;
-use sg_limits::inspect;
+use sg_limits::{Facts, inspect};
+use sg_nested::nested_closed;
 use sg_num::Row;
 use sg_polysum::closed_form;
 use sg_text::print;
 use std::alloc::{AllocError, Global};
 
-/// The answer to the command that sums an expression from a on: polynomials are summed by themselves, other rational functions
-/// only where no part of a divisor is 0. The error is out of memory.
+/// The answer to the command that sums an expression from a on: polynomials are summed by themselves, other expressions only
+/// where no part of a divisor is 0. The error is out of memory.
 pub fn sum_reply(alloc: Global, items: &Row<Expr>, a: i64) -> Result<Reply, AllocError>
     requires one { length items.now ≡ 1 }
     requires form { Each (InForm false false) (map tree_of items.now) }
     requires kept { counted (map tree_of items.now) ≡ None }
+    requires low { negsuc 999 ≤ℤ a }
+    requires high { a ≤ℤ pos 1000 }
     ensures { IfOk result (λ r. IsCountedReply (Sum a) (map tree_of items.now) r.status r.text.items) }
 {
     let f = items.get(0);
@@ -38,13 +43,13 @@ pub fn sum_reply(alloc: Global, items: &Row<Expr>, a: i64) -> Result<Reply, Allo
         let reply = polynomial_reply(alloc, f, a)?;
         return Ok(reply);
     }
-    if !is_rational(f) {
+    if !has_no_product(f) {
         let line = item_text(alloc, b"later", 1)?;
         return Ok(Reply::refused(line));
     }
     match inspect(alloc, items, Some(a)) {
-        Ok(_) => {
-            let reply = rational_reply(alloc, f, a)?;
+        Ok(facts) => {
+            let reply = spared_reply(alloc, items, &facts, a)?;
             Ok(reply)
         }
         Err(fault) => {
@@ -78,6 +83,21 @@ fn is_rational(e: &Expr) -> bool
     }
 }
 
+// Whether the expression holds no product.
+fn has_no_product(e: &Expr) -> bool
+    ensures { IsTrue result ↔ HasNoProduct (tree_of e.now) }
+{
+    match e {
+        Expr::Num(_) | Expr::Here | Expr::Param => true,
+        Expr::Add(a, b) | Expr::Mul(a, b) | Expr::Div(a, b) => {
+            has_no_product(a) && has_no_product(b)
+        }
+        Expr::Neg(a) | Expr::Pow(a, _) => has_no_product(a),
+        Expr::Sum { from: _, body } => has_no_product(body),
+        Expr::Prod { .. } => false,
+    }
+}
+
 // The answer for a polynomial.
 fn polynomial_reply(alloc: Global, f: &Expr, a: i64) -> Result<Reply, AllocError>
     requires { IsPolynomial (tree_of f.now) }
@@ -93,6 +113,33 @@ fn polynomial_reply(alloc: Global, f: &Expr, a: i64) -> Result<Reply, AllocError
             Ok(reply)
         }
     }
+}
+
+// The answer for an expression without products that is no polynomial, no part of whose divisors is 0.
+fn spared_reply(
+    alloc: Global,
+    items: &Row<Expr>,
+    facts: &Facts,
+    a: i64,
+) -> Result<Reply, AllocError>
+    requires one { length items.now ≡ 1 }
+    requires form { Each (InForm false false) (map tree_of items.now) }
+    requires plain { Each HasNoProduct (map tree_of items.now) }
+    requires fraction { Each IsNoPolynomial (map tree_of items.now) }
+    requires kept { counted (map tree_of items.now) ≡ None }
+    requires low { negsuc 999 ≤ℤ a }
+    requires high { a ≤ℤ pos 1000 }
+    requires spared { IsSpared (Sum a) (map tree_of items.now) }
+    requires facts { AreFacts facts.now (Some a) (map tree_of items.now) }
+    ensures { IfOk result (λ r. IsTakenReply (Sum a) (map tree_of items.now) r.status r.text.items) }
+{
+    let f = items.get(0);
+    if is_rational(f) {
+        let reply = rational_reply(alloc, f, a)?;
+        return Ok(reply);
+    }
+    let reply = nested_reply(alloc, items, facts, a)?;
+    Ok(reply)
 }
 
 // The answer for a rational function that is no polynomial, no part of whose divisors is 0.
@@ -117,6 +164,70 @@ fn rational_reply(alloc: Global, f: &Expr, a: i64) -> Result<Reply, AllocError>
             Ok(reply)
         }
     }
+}
+
+// The answer for an expression that holds sums, and no products, no part of whose divisors is 0.
+fn nested_reply(
+    alloc: Global,
+    items: &Row<Expr>,
+    facts: &Facts,
+    a: i64,
+) -> Result<Reply, AllocError>
+    requires one { length items.now ≡ 1 }
+    requires form { Each (InForm false false) (map tree_of items.now) }
+    requires plain { Each HasNoProduct (map tree_of items.now) }
+    requires fraction { Each IsNoPolynomial (map tree_of items.now) }
+    requires kept { counted (map tree_of items.now) ≡ None }
+    requires low { negsuc 999 ≤ℤ a }
+    requires high { a ≤ℤ pos 1000 }
+    requires spared { IsSpared (Sum a) (map tree_of items.now) }
+    requires facts { AreFacts facts.now (Some a) (map tree_of items.now) }
+    ensures { IfOk result (λ r. IsTakenReply (Sum a) (map tree_of items.now) r.status r.text.items) }
+{
+    match nested_closed(alloc, facts, items, a) {
+        Ok(Some(h)) => {
+            let reply = closed_reply(alloc, &h, facts.start)?;
+            Ok(reply)
+        }
+        Ok(None) => {
+            let reply = none_reply(alloc, facts)?;
+            Ok(reply)
+        }
+        Err(wide) => {
+            let reply = Reply::stopped(alloc, wide)?;
+            Ok(reply)
+        }
+    }
+}
+
+// The line that there is no closed form over the products and sums.
+fn none_reply(alloc: Global, facts: &Facts) -> Result<Reply, AllocError>
+    requires products { Each (InForm false false) (map tree_of facts.now.prods) }
+    requires sums { Each (InForm false false) (map tree_of facts.now.sums) }
+    ensures text { IfOk result (λ r. r.text.items ≡ none_line (map tree_of facts.now.prods ++ map tree_of facts.now.sums)) }
+    ensures status { IfOk result (λ r. r.status ≡ No) }
+{
+    let prods = listed_text(alloc, facts.prods.as_slice())?;
+    let sums = listed_text(alloc, facts.sums.as_slice())?;
+    let mut text = Vec::from_slice(alloc, b"none over k")?;
+    text.extend_from_slice(prods.as_slice())?;
+    text.extend_from_slice(sums.as_slice())?;
+    text.extend_from_slice(b"\n")?;
+    Ok(Reply::no(text))
+}
+
+// Each expression in k, after a comma and a blank.
+fn listed_text(alloc: Global, gens: &[Expr]) -> Result<Vec<u8>, AllocError>
+    requires { Each (InForm false false) (map tree_of gens.now) }
+    ensures { IfOk result (λ t. t.items ≡ listed (map tree_of gens.now)) }
+{
+    let mut text = Vec::new(alloc);
+    for g in gens {
+        let form = print(alloc, g, b"k")?;
+        text.extend_from_slice(b", ")?;
+        text.extend_from_slice(form.as_slice())?;
+    }
+    Ok(text)
 }
 
 // The line of a closed form.

@@ -66,8 +66,24 @@ fn answers_the_known_rows(rt: HostRuntime) -> Result<(), Fail> {
             "refused pole at 1 of k-k item 1\n",
             Status::Refused,
         ),
-        ("sum 1 H(k)", "refused later item 1\n", Status::Refused),
-        ("sum 0 1/k+H(k)", "refused later item 1\n", Status::Refused),
+        ("sum 1 H(k)", "closed (m+1)*H(m)-m from 1\n", Status::Done),
+        (
+            "sum 1 H(k)^2",
+            "closed (m+1)*H(m)^2-(2*m+1)*H(m)+2*m from 1\n",
+            Status::Done,
+        ),
+        ("sum 1 H(k)/k", "none over k, H(k)\n", Status::No),
+        (
+            "sum 1 sum(j,5,k,1/j)",
+            "closed (m+1)*sum(j,5,m,1/j)-m+4 from 4\n",
+            Status::Done,
+        ),
+        (
+            "sum 0 1/k+H(k)",
+            "refused pole at 0 of k item 1\n",
+            Status::Refused,
+        ),
+        ("sum 0 fact(k)", "refused later item 1\n", Status::Refused),
         ("sum 1 k+", "refused syntax at 2 item 1\n", Status::Refused),
         (
             "sum 1 1000000000000000000",

@@ -1,6 +1,6 @@
 use Rattle.std.proofs.Common.{sym, ◌∙◌, inl, inr}
 use Rattle.sg_expr.specs.Tree.{tree_of}
-use Rattle.sg_top.specs.Stages.{IsRational}
+use Rattle.sg_top.specs.Taking.{IsRational}
 use Rattle.sg_top.proofs.Parted.{not_true, left_rational}
 use Rattle.sg_top.proofs.sums.+is_rational.Goals as goal
 

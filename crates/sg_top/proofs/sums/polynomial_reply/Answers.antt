@@ -1,4 +1,4 @@
-use Rattle.std.proofs.Common.{FitsSigned, inl}
+use Rattle.std.proofs.Common.{FitsSigned, [], ◌∷◌, inl}
 use Rattle.std.specs.Int.{w64}
 use Rattle.std.proofs.lemmas.Int.{to_z-of_z}
 use Rattle.sg_expr.specs.Tree.{tree_of}
@@ -20,5 +20,5 @@ returns-in_ok-reply-in-Err c =
     let fits : FitsSigned w64 c.args.a = c.ranges.a in
     let f = tree_of c.args.f.now in
     let narrow = simp to_z-of_z at c.in-Err.ensures.narrow in
-    wide-reply c.args.a f c.in_ok-reply-in-Err.reply.status c.in_ok-reply-in-Err.reply.text.items (inl (polynomial_spared c.args.a f c.requires)) c.in_ok-reply-in-Err.ensures.line
+    wide-reply c.args.a (f ∷ []) c.in_ok-reply-in-Err.reply.status c.in_ok-reply-in-Err.reply.text.items (inl (polynomial_spared c.args.a f c.requires)) c.in_ok-reply-in-Err.ensures.line
     (λ n. c.in_ok-reply-in-Err.ensures.no_memory (narrow n.1 n.2 n.3))

@@ -1,4 +1,4 @@
-use Rattle.std.proofs.Common.{FitsSigned, false, inl}
+use Rattle.std.proofs.Common.{FitsSigned, [], ◌∷◌, false, inl}
 use Rattle.std.specs.Int.{w64}
 use Rattle.std.proofs.lemmas.Int.{to_z-of_z}
 use Rattle.sg_expr.specs.Tree.{tree_of}
@@ -31,5 +31,5 @@ returns-in_ok-reply-in-Ok-None c =
 
 pub returns-in_ok-reply-in-Err : goal.returns-in_ok-reply-in-Err
 returns-in_ok-reply-in-Err c =
-    wide-reply c.args.a (tree_of c.args.f.now) c.in_ok-reply-in-Err.reply.status c.in_ok-reply-in-Err.reply.text.items (inl c.requires.spared) c.in_ok-reply-in-Err.ensures.line
+    wide-reply c.args.a (tree_of c.args.f.now ∷ []) c.in_ok-reply-in-Err.reply.status c.in_ok-reply-in-Err.reply.text.items (inl c.requires.spared) c.in_ok-reply-in-Err.ensures.line
     (λ n. c.requires.fraction n.0)

@@ -1,0 +1,9 @@
+//! Telescoping in any tower.
+#![tactic(auto)]
+
+mod antidifference;
+
+pub use antidifference::telescope;
+
+#[cfg(test)]
+mod tests;

@@ -2,3 +2,12 @@ pub mod WholeForms
 pub mod FlatParts
 pub mod ExpressedValues
 pub mod ExpressedForms
+pub mod InverseValues
+pub mod PlacedParts
+pub mod InvertedParts
+pub mod FunctionParts
+pub mod LowestValues
+pub mod TermParts
+pub mod FoundTerms
+pub mod WorthParts
+pub mod OneText

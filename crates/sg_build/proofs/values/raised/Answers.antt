@@ -1,0 +1,11 @@
+use Rattle.std.proofs.Common.{subst}
+use Rattle.sg_spec.specs.Worth.{HasWorth}
+use Rattle.sg_build.specs.Found.{Finds}
+use Rattle.sg_build.proofs.values.raised.Goals as goal
+
+pub returns-in_ok-r-in-Some-clause-value : goal.returns-in_ok-r-in-Some-clause-value
+returns-in_ok-r-in-Some-clause-value g c = λ l k s h. (
+  g.K.Field.val c.in-Some.x,
+  subst (Finds g.K.Field.val (HasWorth l s k)) c.in-Some.is h,
+  c.in_ok-r-in-Some.ensures.value,
+)

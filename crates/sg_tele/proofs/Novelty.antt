@@ -1,13 +1,13 @@
 -- A sum is new exactly where each solution for what it grows by has the constant 0.
 use Rattle.std.proofs.Common.{◌≡◌, ℕ, zero, suc, ◌+◌, ◌<◌, refl, sym, ◌∙◌, ap, subst, List, [], ◌∷◌, map, length, take, get_or, Option, Some, None, IfSome, IfNone, arith}
-use Rattle.sg_algebra.specs.Ring.{Ring, Field}
+use Rattle.sg_algebra.specs.Ring.{Ring}
 use Rattle.sg_algebra.specs.Coefficients.{Each}
 use Rattle.sg_algebra.proofs.Value.{Value, zero_value, one_value, inv_value, ◌*ᵛ◌, ◌/ᵛ◌}
 use Rattle.sg_algebra.proofs.ValueField.{ValueR, value_one_ne, value_mul-inv, value_mul_comm, value_mul-one}
 use Rattle.sg_algebra.proofs.Polynomial.{coefficient}
-use Rattle.sg_tower_theory.proofs.Difference.{Difference, trivial, delta, delta_cong, total, total_O, mixed, Solves, Spanned}
-use Rattle.sg_tower_theory.proofs.Slices.{Map, differences}
-use Rattle.sg_tower_theory.proofs.Formal.{Formal, Element, elements, shifted}
+use Rattle.sg_tower_theory.proofs.Difference.{Difference, trivial, delta_cong, total, total_O, Spanned}
+use Rattle.sg_tower_theory.proofs.Slices.{differences}
+use Rattle.sg_tower_theory.proofs.Formal.{elements, shifted}
 use Rattle.sg_matrix.specs.declared.solution.Solution.{Solution}
 use Rattle.sg_tower.specs.Elements.{Reading, IsCopy, IsNewSum, consts_of, value_of, IsMultiple, IsSolution, AllSolve, IsComplete}
 use Rattle.sg_tele.specs.Telescoping.{first_of, StartsWithZero, IsScaledToOne, IsScaledOf, IsAntidifference}

@@ -45,10 +45,7 @@ pub fn grow<F: Field, T: Tower<K = F>>(
 }
 
 // The elements as elements of the tower with one more sum.
-fn raised_all<T: Tower>(
-    alloc: Global,
-    known: Row<T::Elem>,
-) -> Result<Row<Poly1<T::Elem>>, Stop>
+fn raised_all<T: Tower>(alloc: Global, known: Row<T::Elem>) -> Result<Row<Poly1<T::Elem>>, Stop>
     ensures value { IfOk result (λ r. r ≡ map (λ e. e ∷ []) known) }
     ensures wide { IfErr result KeepsWideStep }
 {

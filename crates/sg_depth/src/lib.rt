@@ -13,6 +13,3 @@ pub use depth::with_tower;
 pub use fate::Fate;
 pub use jobs::Job;
 pub use levels::{plus_constant, start_of_element, start_values};
-
-#[cfg(test)]
-mod tests;

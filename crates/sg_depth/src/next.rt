@@ -31,16 +31,7 @@ pub fn next_sum<F: Letters, T: Tower<K = F>>(
 {
     let sum = facts.sums.get(known.len());
     match sum {
-        Expr::Sum { from, body } => fate_of(
-            alloc,
-            facts,
-            tower,
-            known,
-            free_gens,
-            sum,
-            from,
-            body,
-        ),
+        Expr::Sum { from, body } => fate_of(alloc, facts, tower, known, free_gens, sum, from, body),
         Expr::Num(_) | Expr::Here | Expr::Param | Expr::Neg(_) | Expr::Pow(_, _) => unreachable!(),
         Expr::Add(_, _) | Expr::Mul(_, _) | Expr::Div(_, _) | Expr::Prod { .. } => unreachable!(),
     }

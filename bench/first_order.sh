@@ -69,24 +69,17 @@ fn coefficient(alloc: Global, kind: &str) -> Result<RatFun<Rat>, Stop> {
     over(alloc, upper, lower)
 }
 
-// The number of digits of the greatest numerator of a coefficient.
-fn size(p: &Poly<Rat>) -> usize {
-    let mut most = 0;
+// The number of bits of the greatest numerator of a coefficient.
+fn size(p: &Poly<Rat>) -> u32 {
+    let mut most = 0u32;
     for c in p.coeffs() {
-        let mut n = c.num().unsigned_abs();
-        let mut digits = 0usize;
-        for _ in 0..40 {
-            if n > 0 {
-                n = n / 10;
-                digits += 1;
-            }
-        }
-        most = most.max(digits);
+        let bits = 128u32.saturating_sub(c.num().unsigned_abs().leading_zeros());
+        most = most.max(bits);
     }
     most
 }
 
-fn digits(alloc: Global, list: &Row<Solution<Rat, RatFun<Rat>>>) -> Result<usize, Stop> {
+fn bits(alloc: Global, list: &Row<Solution<Rat, RatFun<Rat>>>) -> Result<u32, Stop> {
     let mut most = 0;
     for s in list.as_slice() {
         let upper = s.value.num(alloc)?;
@@ -96,7 +89,7 @@ fn digits(alloc: Global, list: &Row<Solution<Rat, RatFun<Rat>>>) -> Result<usize
     Ok(most)
 }
 
-fn called(alloc: Global, kind: &str, degree: u32, seed: u32) -> Result<(usize, usize), Stop> {
+fn called(alloc: Global, kind: &str, degree: u32, seed: u32) -> Result<(usize, u32), Stop> {
     let a = coefficient(alloc, kind)?;
     let mut fs = Row::new(alloc);
     fs.push(one_over(alloc, degree, seed)?)?;
@@ -104,7 +97,7 @@ fn called(alloc: Global, kind: &str, degree: u32, seed: u32) -> Result<(usize, u
         return Ok((0, 0));
     }
     let list = solve_first(alloc, &a, &fs)?;
-    let most = digits(alloc, &list)?;
+    let most = bits(alloc, &list)?;
     Ok((list.len(), most))
 }
 
@@ -138,6 +131,6 @@ for kind in ('one', 'two', 'line'):
             times.append(spent() - before)
             answers.append(done.stdout.split())
         given = [a for a in answers if len(a) == 2]
-        print('%-4s degree %d  median %8.1f ms  greatest %8.1f ms  wide %2d  memory %2d  pairs %s  most digits %d' % (
+        print('%-4s degree %d  median %8.1f ms  greatest %8.1f ms  wide %2d  memory %2d  pairs %s  most bits %d' % (
             kind, degree, sorted(times)[10] * 1e3, max(times) * 1e3, answers.count(['wide']), answers.count(['memory']), sorted(set(int(a[0]) for a in given)), max([int(a[1]) for a in given] or [0])))
 PY

@@ -4,3 +4,6 @@
 mod bottom;
 
 pub use bottom::Bottom;
+
+#[cfg(test)]
+mod tests;

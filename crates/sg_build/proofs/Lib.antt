@@ -11,3 +11,4 @@ pub mod TermParts
 pub mod FoundTerms
 pub mod WorthParts
 pub mod OneText
+pub mod PlaceableQuotient

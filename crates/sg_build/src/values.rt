@@ -195,7 +195,8 @@ fn quotient<K: Field>(alloc: Global, x: Option<K>, y: Option<K>) -> Result<Optio
 
 // The power of a value.
 fn raised<K: Field>(alloc: Global, x: Option<K>, e: &u128) -> Result<Option<K>, Stop>
-    ensures value { IfOk result (λ o. (l : Value K.vars) (k : ℤ) (s : Tree) → Finds K.val (HasWorth l s k) x → Finds K.val (HasWorth l (power s e.now) k) o) }
+    ensures value { IfOk result (λ o. (l : Value K.vars) (k : ℤ) (s : Tree) → Finds K.val (HasWorth l s k) x
+        → Finds K.val (HasWorth l (power s e.now) k) o) }
     ensures wide { IfErr result KeepsWideStep }
 {
     match x {

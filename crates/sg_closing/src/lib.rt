@@ -8,6 +8,3 @@ mod placing;
 pub use antidifference::antidifference_of;
 pub use closed::rational_closed;
 pub use placing::rational_of;
-
-#[cfg(test)]
-mod tests;

@@ -16,7 +16,8 @@ use std::alloc::Global;
 // The greatest number that is tried for c.
 const MOST: u32 = 1024;
 
-/// The least number, from 1 to 1024, in whose unit both lists of coefficients are whole; 1 where there is none.
+/// A guess at a number from 1 to 1024 in whose unit both lists of coefficients are whole. Nothing but its sign is promised: what
+/// is found by it is tried by exact divisions, and a worse guess only leaves more to an elimination.
 pub fn common_unit(a: &[Rat], b: &[Rat]) -> i128
     ensures { pos 0 <ℤ result }
 {

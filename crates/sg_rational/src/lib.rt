@@ -10,6 +10,3 @@ mod system;
 
 pub use first::solve_first;
 pub use sg_matrix::Solution;
-
-#[cfg(test)]
-mod tests;

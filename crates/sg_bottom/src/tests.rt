@@ -1,9 +1,8 @@
-use crate::ansatz::solve_by_denominators;
-use crate::{Solution, solve_first};
-use sg_constant::solve_constant;
+use sg_matrix::Solution;
 use sg_num::{Field, Rat, Row, Stop};
 use sg_poly::Poly;
 use sg_ratfun::RatFun;
+use sg_rational::solve_first;
 use std::alloc::Global;
 
 // The coefficients of a numerator and a denominator, the lowest first.
@@ -222,50 +221,6 @@ fn telescopes_as_partial_fractions_say(rt: HostRuntime) {
         assert!(rt;
             matches!(&basis, Ok(Some(b)) if has(b, pairs, closed)),
             "{factors:?}"
-        );
-    }
-}
-
-// Both engines on one equation with a constant coefficient; None where it is 0.
-fn by_both(
-    alloc: Global,
-    a: i128,
-    f: RatFun<Rat>,
-) -> Result<Option<(Basis<Rat>, Basis<Rat>)>, Stop> {
-    let mut fs = Row::new(alloc);
-    fs.push(f)?;
-    let c = Rat::whole(a);
-    let a = RatFun::from_rat(alloc, c)?;
-    if c.is_zero() || a.is_zero() {
-        return Ok(None);
-    }
-    let left = solve_constant(alloc, &c, &fs)?;
-    let right = solve_by_denominators(alloc, &a, &fs)?;
-    Ok(Some((left, right)))
-}
-
-// Whether they answer as many pairs, and constants other than 0 in the same case: each basis is one of all solutions.
-fn agree(alloc: Global, a: i128, factors: &[(i128, i128)]) -> Result<bool, Stop> {
-    let f = one_over(alloc, factors)?;
-    match by_both(alloc, a, f)? {
-        Some((left, right)) => Ok(has(&left, right.len(), is_closed(&right))),
-        None => Ok(false),
-    }
-}
-
-// Seeded products of factors q k + c.
-#[test]
-fn both_engines_answer_one_space(rt: HostRuntime) {
-    let mut state = 5u32;
-    for a in [1, 2, -1, 1, 3, -2, 1, 1] {
-        let mut factors = [(1, 0); 3];
-        for f in factors.iter_mut() {
-            state = state.wrapping_mul(1664525).wrapping_add(1013904223);
-            *f = ((state >> 16) as i128 % 2 + 1, (state >> 20) as i128 % 5);
-        }
-        assert!(rt;
-            matches!(agree(rt.alloc(), a, &factors), Ok(true)),
-            "{a} {factors:?}"
         );
     }
 }

@@ -3,5 +3,7 @@ mod Extending
 mod Flattening
 mod Shifting
 mod Solving
+mod Skipping
 mod Steps
+mod Trivial
 mod Zeros

@@ -14,10 +14,11 @@
 --   State, Sides, Next ρ v β ..   what the recursion over the powers of t keeps, where t grows by β
 --   StartRows ρ v β fs rows       its start
 --   IsFinished w s                s is w without what is left
+--   IsTrivial ρ v ls xs rows      rows for right sides ls that are 0: 1 without constants, and each constant of xs, the first of ls, with 0
 use Rattle.std.specs.Prelude.{◌≡◌, ℕ, suc, ◌<◌, ◌≤◌, List, [], ◌∷◌, length, map, get_or}
 use Rattle.sg_algebra.specs.Ring.{Ring}
 use Rattle.sg_algebra.specs.Coefficients.{coef}
-use Rattle.sg_algebra.proofs.Value.{Value, ◌+ᵛ◌, ◌*ᵛ◌}
+use Rattle.sg_algebra.proofs.Value.{Value, ◌+ᵛ◌, ◌*ᵛ◌, zero_value}
 use Rattle.sg_algebra.proofs.ValueField.{ValueR}
 use Rattle.sg_algebra.proofs.Polynomial.{coefficient}
 use Rattle.sg_algebra.proofs.PolynomialRing.{PolyR}
@@ -27,10 +28,11 @@ use Rattle.sg_tower_theory.proofs.Above.{above, monomial}
 use Rattle.sg_algebra.proofs.Degree.{Below}
 use Rattle.sg_tower_theory.proofs.Slices.{Map, IsState, IsSides, IsNext, differences}
 use Rattle.sg_tower_theory.proofs.PowerSlices.{power_slice}
+use Rattle.sg_tower_theory.proofs.Starting.{Starts}
 use Rattle.sg_tower_theory.proofs.Formal.{Element, elements, shifted}
 use Rattle.sg_matrix.specs.declared.solution.Solution.{Solution}
 use Rattle.sg_sums.specs.declared.partial.Partial.{Partial}
-use Rattle.sg_tower.specs.Elements.{Reading, Same, consts_of, value_of}
+use Rattle.sg_tower.specs.Elements.{Reading, Same, IsOne, consts_of, value_of}
 
 -- the constants x + c y
 abbrev pub ConstantsPlus : {K : Type 0} {d : ℕ} → (K → Value d) → List K → Value d → List K → List K → Type 0
@@ -89,6 +91,13 @@ module _ {d : ℕ} {E : Type 0} (ρ : Reading d E) where
       pub coeffs : ConstantsPlus v acc.coeffs c row.coeffs r.coeffs
       pub value : PolysR.◌≈◌ (partial_value r) (PolysR.◌⊞◌ (partial_value acc) (PolysR.◌⊠◌ ((shifted ρ.formal).κ.on c ∷ []) (partial_value row)))
       pub left : PolysR.◌≈◌ (partial_left r) (PolysR.◌⊞◌ (partial_left acc) (PolysR.◌⊠◌ ((shifted ρ.formal).κ.on c ∷ []) (partial_left row)))
+
+    abbrev pub IsOneRow : Solution K E → Type 0
+    IsOneRow w = ((j : ℕ) → consts_of ρ v w j ≡ zero_value) × IsOne ρ w.value
+
+    abbrev pub IsTrivial : List E → List E → List (Solution K E) → Type 0
+    IsTrivial ls xs [] = ⊥
+    IsTrivial ls xs (w ∷ ws) = IsOneRow w × Starts (shifted ρ.formal) (differences (shifted ρ.formal)) ρ.of ls (consts_of ρ v) (value_of ρ v) (λ w. (elements ρ.formal).O) 0 xs ws
 
     module _ (β : E) where
       pub record IsCombined (c : ℕ → Value d) (rows : List (Partial K E)) (r : Partial K E) : Type 0 where

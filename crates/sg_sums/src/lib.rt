@@ -1,6 +1,7 @@
 //! One more sum on top of any tower.
 #![tactic(auto)]
 
+mod constants;
 mod partial;
 mod poly1;
 mod polys;

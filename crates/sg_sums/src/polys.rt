@@ -1,5 +1,6 @@
 ghost use Rattle.std.specs.Prelude.{◌≡◌, ℕ, IfOk, IfErr, [], ◌∷◌};
 ghost use Rattle.sg_num.specs.Stopped.{KeepsWideStep};
+ghost use Rattle.sg_tower.specs.Elements.{IsSum, IsDifference, IsProduct};
 ghost use Rattle.sg_sums.specs.Polynomials.{IsPlace, PolySum, PolyDifference, PolyMultiple, PolyScaled, PolyBehind, PolyMonomial, PolyProduct, IsOwn};
 
 use sg_num::{Field, Row, Stop};
@@ -39,8 +40,23 @@ pub(crate) fn added<T: Tower>(
     for i in 0..x.len().max(y.len()) {
         let a = coefficient(alloc, below, x, i)?;
         let b = coefficient(alloc, below, y, i)?;
-        r.push(below.add(alloc, &a, &b)?)?;
+        r.push(sum_of(alloc, below, a, b)?)?;
     }
+    Ok(r)
+}
+
+// x + y; no step is taken where one of them is 0.
+fn sum_of<T: Tower>(alloc: Global, below: &T, x: T::Elem, y: T::Elem) -> Result<T::Elem, Stop>
+    ensures value { IfOk result (IsSum (T.reading T.K.vars T.K.val below.now) x y) }
+    ensures wide { IfErr result KeepsWideStep }
+{
+    if below.is_zero(&x) {
+        return Ok(y);
+    }
+    if below.is_zero(&y) {
+        return Ok(x);
+    }
+    let r = below.add(alloc, &x, &y)?;
     Ok(r)
 }
 
@@ -58,8 +74,25 @@ pub(crate) fn subtracted<T: Tower>(
     for i in 0..x.len().max(y.len()) {
         let a = coefficient(alloc, below, x, i)?;
         let b = coefficient(alloc, below, y, i)?;
-        r.push(below.sub(alloc, &a, &b)?)?;
+        r.push(difference_of(alloc, below, a, b)?)?;
     }
+    Ok(r)
+}
+
+// x - y; no step is taken where y is 0.
+fn difference_of<T: Tower>(
+    alloc: Global,
+    below: &T,
+    x: T::Elem,
+    y: T::Elem,
+) -> Result<T::Elem, Stop>
+    ensures value { IfOk result (IsDifference (T.reading T.K.vars T.K.val below.now) x y) }
+    ensures wide { IfErr result KeepsWideStep }
+{
+    if below.is_zero(&y) {
+        return Ok(x);
+    }
+    let r = below.sub(alloc, &x, &y)?;
     Ok(r)
 }
 
@@ -75,8 +108,21 @@ pub(crate) fn times<T: Tower>(
 {
     let mut r = Row::new(alloc);
     for i in 0..x.len() {
-        r.push(below.mul(alloc, e, x.get(i))?)?;
+        r.push(product_of(alloc, below, e, x.get(i))?)?;
     }
+    Ok(r)
+}
+
+// x y; no step is taken where y is 0.
+fn product_of<T: Tower>(alloc: Global, below: &T, x: &T::Elem, y: &T::Elem) -> Result<T::Elem, Stop>
+    ensures value { IfOk result (IsProduct (T.reading T.K.vars T.K.val below.now) x.now y.now) }
+    ensures wide { IfErr result KeepsWideStep }
+{
+    if below.is_zero(y) {
+        let zero = below.zero(alloc)?;
+        return Ok(zero);
+    }
+    let r = below.mul(alloc, x, y)?;
     Ok(r)
 }
 

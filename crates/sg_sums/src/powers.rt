@@ -10,6 +10,7 @@ ghost use Rattle.sg_tower_theory.proofs.Difference.{Solves, Spanned};
 ghost use Rattle.sg_tower.specs.Elements.{raised, AllSolve, IsComplete, IsShifted};
 ghost use Rattle.sg_sums.specs.Polynomials.{IsPlace, ConstantsPlus, IsExtended, IsCombined, State, Sides, Next, StartRows, IsFinished};
 
+use crate::constants::all_solutions;
 use crate::partial::Partial;
 use crate::poly1::Poly1;
 use crate::polys::{added, behind, coefficient, monomial, scaled, subtracted, times};
@@ -81,7 +82,7 @@ fn unit_entry<F: Field>(alloc: Global, i: usize, j: usize) -> Result<F, Stop>
 }
 
 // 1 at `i`, 0 at the other places below `n`.
-fn unit_row<F: Field>(alloc: Global, n: usize, i: usize) -> Result<Row<F>, Stop>
+pub(crate) fn unit_row<F: Field>(alloc: Global, n: usize, i: usize) -> Result<Row<F>, Stop>
     requires { i < n }
     ensures value { IfOk result (λ r. (j : ℕ) → coefficient_at (map F.val r) j ≡ unit i j) }
     ensures wide { IfErr result KeepsWideStep }
@@ -97,13 +98,16 @@ fn unit_row<F: Field>(alloc: Global, n: usize, i: usize) -> Result<Row<F>, Stop>
 fn extended<T: Tower>(
     alloc: Global,
     below: &T,
-    acc: &Partial<T::K, T::Elem>,
+    acc: Partial<T::K, T::Elem>,
     c: &T::K,
     row: &Partial<T::K, T::Elem>,
 ) -> Result<Partial<T::K, T::Elem>, Stop>
-    ensures value { IfOk result (IsExtended (T.reading T.K.vars T.K.val below.now) T.K.val acc.now (T.K.val c.now) row.now) }
+    ensures value { IfOk result (IsExtended (T.reading T.K.vars T.K.val below.now) T.K.val acc (T.K.val c.now) row.now) }
     ensures wide { IfErr result KeepsWideStep }
 {
+    if c.is_zero() {
+        return Ok(acc);
+    }
     let coeffs = plus_constants(alloc, &acc.coeffs, c, &row.coeffs)?;
     let more = scaled(alloc, below, c, &row.value)?;
     let value = added(alloc, below, &acc.value, &more)?;
@@ -134,7 +138,7 @@ fn combined<T: Tower>(
     };
     for i in 0..rows.len() {
         let c = constant(alloc, cs, i)?;
-        sum = extended(alloc, below, &sum, &c, rows.get(i))?;
+        sum = extended(alloc, below, sum, &c, rows.get(i))?;
     }
     Ok(sum)
 }
@@ -245,7 +249,7 @@ pub(crate) fn lowered<T: Tower>(
     ensures wide { IfErr result KeepsWideStep }
 {
     let ls = sides(alloc, below, beta, fs, n, rows)?;
-    let inner = below.solve(alloc, &ls)?;
+    let inner = all_solutions(alloc, below, &ls)?;
     let new = all_next(alloc, below, beta, fs, n, rows, &ls, &inner)?;
     Ok(new)
 }

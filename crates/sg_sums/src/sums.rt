@@ -71,7 +71,7 @@ fn length_without_zeros<T: Tower>(below: &T, p: &Row<T::Elem>) -> usize
 }
 
 // Whether all coefficients from `n` on are 0.
-fn zero_from<T: Tower>(below: &T, p: &Row<T::Elem>, n: usize) -> bool
+pub(crate) fn zero_from<T: Tower>(below: &T, p: &Row<T::Elem>, n: usize) -> bool
     ensures { IsTrue result ↔ ZeroFrom (T.reading T.K.vars T.K.val below.now) p.now n }
 {
     for i in n..p.len() {

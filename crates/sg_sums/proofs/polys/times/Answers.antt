@@ -6,7 +6,7 @@ use Rattle.sg_sums.proofs.polys.times.Goals as goal
 
 pub loop-i-preserved : goal.loop-i-preserved
 loop-i-preserved g c = builds_push (elements (g.T.Tower.reading g.T.K.Field.vars g.T.K.Field.val c.args.below.now).formal) (g.T.Tower.reading g.T.K.Field.vars g.T.K.Field.val c.args.below.now).of _ c.loop-i.i c.loop-i.r _ _ c.loop-i.invariant
-    (multiple_step (g.T.Tower.reading g.T.K.Field.vars g.T.K.Field.val c.args.below.now) ((g.T.Tower.reading g.T.K.Field.vars g.T.K.Field.val c.args.below.now).of c.args.e.now) c.args.x.now c.loop-i.i c.get.result.now _ (omega arith) c.get.ensures c.in_ok-mul.ensures.value) c.in_ok-push.ensures.ok
+    (multiple_step (g.T.Tower.reading g.T.K.Field.vars g.T.K.Field.val c.args.below.now) ((g.T.Tower.reading g.T.K.Field.vars g.T.K.Field.val c.args.below.now).of c.args.e.now) c.args.x.now c.loop-i.i c.get.result.now _ (omega arith) c.get.ensures c.in_ok-product_of.ensures.value) c.in_ok-push.ensures.ok
 
 pub returns-clause-value : goal.returns-clause-value
 returns-clause-value g c = multiple_built (g.T.Tower.reading g.T.K.Field.vars g.T.K.Field.val c.args.below.now) ((g.T.Tower.reading g.T.K.Field.vars g.T.K.Field.val c.args.below.now).of c.args.e.now) c.args.x.now c.loop-i.r c.loop-i.i c.loop-i.invariant (omega arith)

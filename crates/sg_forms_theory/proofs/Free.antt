@@ -1,6 +1,5 @@
 -- The sums at the places of a tower are new in values.
---   IsNewOver before g    no expression over the sums before agrees with g from any point on
---   free_at               so it is for each sum at one of the places
+--   free_at      each sum at one of the places is new over all sums before it
 use Rattle.std.proofs.Common.{◌≡◌, ℕ, zero, suc, ◌+◌, ◌<◌, ℤ, pos, ◌+ℤ◌, ◌-ℤ◌, ◌≤ℤ◌, refl, sym, ap, ◌∙◌, subst, List, [], ◌∷◌, ◌++◌, length, get_or, append_assoc, ◌⊎◌, inl, inr, arith}
 use Rattle.std.proofs.lemmas.Int.{ints}
 use Rattle.std.proofs.lemmas.List.{get_or_append_left, get_or_push, length-append, length_push}
@@ -23,10 +22,8 @@ use Rattle.sg_value_theory.proofs.TowerOf.{IsTowerOf, at_places, Ascending}
 use Rattle.sg_value_theory.proofs.PointsOf.{HasValues, HasUnits, points, points-are, points-late, next-place}
 use Rattle.sg_value_theory.proofs.Lists.{each-at}
 use Rattle.sg_value_theory.proofs.NoneMeansNone.{known_expressed}
+use Rattle.sg_forms_theory.specs.Free.{IsFree}
 use Rattle.sg_forms_theory.proofs.Prefix.{Split, split_places, Expressed, without-known, New, without-new, grows}
-
-abbrev pub IsNewOver : List Tree → Tree → Type 0
-IsNewOver before g = (e : Tree) → Over before e → ¬ Agree e g
 
 no_factors : {X : Type 0} (n : ℕ) (xs : List X) → 0 ≡ length xs → xs ≡ []
 no_factors n [] e = refl
@@ -79,7 +76,7 @@ module _ (s : ℤ) where
           refl,
         )
 
-    free_last : IsNewOver before g
+    free_last : IsFree before g
     free_last e over agree =
         let found = known_expressed s [] before F places lower.known_before lower.tower tt frees s least independent.0 (no_factors 0 F.products lower.tower.adjoined) all e g β over grown agree in
         independent.1 found.0 found.1
@@ -94,7 +91,7 @@ module _ (s : ℤ) where
   Peels k before g =
       (after : List Tree) → length after ≡ k → (αs : List (Value 1)) (n : ℕ) (sh : Shape (base αs) n) (places : List ℕ) (known : List (Element (made αs n sh)))
       → IsTowerOf no_letter s [] (before ++ g ∷ after) (made αs n sh) places known → IsIndependent (made αs n sh) → Each (HasValues no_letter) (before ++ g ∷ after)
-      → (j : ℕ) → j < length places → get_or places j 0 ≡ length before → IsNewOver before g
+      → (j : ℕ) → j < length places → get_or places j 0 ≡ length before → IsFree before g
 
   inside-of : (before : List Tree) (g : Tree) (places : List ℕ) → Each (λ i. i < length (before ++ g ∷ [])) places → Each (λ i. i < suc (length before)) places
   inside-of before g places h = each_to (λ i. i < length (before ++ g ∷ [])) (λ i. i < suc (length before)) places (λ i l. let e = length_push before g in omega (arith, l, e)) h
@@ -104,12 +101,12 @@ module _ (s : ℤ) where
   begun before g [] e αs n sh places known is independent all j l at = cases (split_places (length before) places is.ascending (inside-of before g places is.inside))
     where
       last : (n : ℕ) (sh : Shape (base αs) n) (places' : List ℕ) (known : List (Element (made αs n sh))) → IsTowerOf no_letter s [] (before ++ g ∷ []) (made αs n sh) (places' ++ length before ∷ []) known → IsIndependent (made αs n sh)
-          → Ascending places' → Each (λ i. i < length before) places' → IsNewOver before g
+          → Ascending places' → Each (λ i. i < length before) places' → IsFree before g
       last zero sh places' known is independent a i = absurd (let z = is.size in let m = length_push places' (length before) in omega (arith, z, m))
       last (suc n) sh places' known is independent a i =
           free_last before g (made αs n sh.0) sh.1 places' known is a i (each_left (HasValues no_letter) before (g ∷ []) all) (each_right (HasValues no_letter) before (g ∷ []) all).0 independent
 
-      cases : Split (length before) places → IsNewOver before g
+      cases : Split (length before) places → IsFree before g
       cases (inl h) = absurd (let k = each-at (λ i. i < length before) places j 0 l h in let e = at in omega (arith, k, e))
       cases (inr w) = last n sh w.0 known (subst (λ (is' : List ℕ). IsTowerOf no_letter s [] (before ++ g ∷ []) (made αs n sh) is' known) w.1 is) independent w.2 w.3
 
@@ -139,18 +136,18 @@ module _ (s : ℤ) where
     longer = let m = length-append before (g ∷ init) in omega (arith, m)
 
     step : (αs : List (Value 1)) (n : ℕ) (sh : Shape (base αs) n) (places : List ℕ) (known : List (Element (made αs n sh))) → IsTowerOf no_letter s [] (front ++ x ∷ []) (made αs n sh) places known
-        → IsIndependent (made αs n sh) → Each (HasValues no_letter) (front ++ x ∷ []) → (j : ℕ) → j < length places → get_or places j 0 ≡ length before → IsNewOver before g
+        → IsIndependent (made αs n sh) → Each (HasValues no_letter) (front ++ x ∷ []) → (j : ℕ) → j < length places → get_or places j 0 ≡ length before → IsFree before g
     step αs n sh places known is independent all j l at = cases (split_places (length front) places is.ascending (inside-of front x places is.inside))
       where
         last : (n : ℕ) (sh : Shape (base αs) n) (places' : List ℕ) (known : List (Element (made αs n sh))) → IsTowerOf no_letter s [] (front ++ x ∷ []) (made αs n sh) (places' ++ length front ∷ []) known → IsIndependent (made αs n sh)
-            → Ascending places' → Each (λ i. i < length front) places' → (j < length places') × (get_or places' j 0 ≡ length before) → IsNewOver before g
+            → Ascending places' → Each (λ i. i < length front) places' → (j < length places') × (get_or places' j 0 ≡ length before) → IsFree before g
         last zero sh places' known is independent a i w = absurd (let z = is.size in let m = length_push places' (length front) in omega (arith, z, m))
         last (suc n) sh places' known is independent a i w =
             let has = (each_right (HasValues no_letter) front (x ∷ []) all).0 in
             let lower = without-new no_letter s [] front x (made αs n sh.0) sh.1 places' known is a i has in
             again init e αs n sh.0 places' lower.known_before lower.tower independent.0 (each_left (HasValues no_letter) front (x ∷ []) all) j w.0 w.1
 
-        cases : Split (length front) places → IsNewOver before g
+        cases : Split (length front) places → IsFree before g
         cases (inl h) =
             let r = without-known no_letter s [] front x (made αs n sh) places known is h in
             again init e αs n sh places r.known_before r.tower independent (each_left (HasValues no_letter) front (x ∷ []) all) j l at
@@ -162,7 +159,7 @@ module _ (s : ℤ) where
   next k before g again [] e αs n sh places known is independent all j l at = absurd (omega (arith, e))
   next k before g again (x ∷ after) e αs n sh places known is independent all j l at = go (snoc x after)
     where
-      go : (ys : List Tree) × (y : Tree) × (x ∷ after ≡ ys ++ y ∷ []) × (length ys ≡ length after) → IsNewOver before g
+      go : (ys : List Tree) × (y : Tree) × (x ∷ after ≡ ys ++ y ∷ []) × (length ys ≡ length after) → IsFree before g
       go r =
           let regroup : before ++ g ∷ (x ∷ after) ≡ (before ++ g ∷ r.0) ++ r.1 ∷ [] = ap (λ (zs : List Tree). before ++ g ∷ zs) r.2 ∙ sym (append_assoc before (g ∷ r.0) (r.1 ∷ [])) in
           let size = r.3 in
@@ -174,5 +171,5 @@ module _ (s : ℤ) where
   peels (suc k) before g = next k before g (peels k before g)
 
   pub free_at : (before : List Tree) (g : Tree) (after : List Tree) (F : Formal 0) (places : List ℕ) (known : List (Element F)) → IsTowerOf no_letter s [] (before ++ g ∷ after) F places known → IsIndependent F
-      → Each (HasValues no_letter) (before ++ g ∷ after) → (j : ℕ) → j < length places → get_or places j 0 ≡ length before → IsNewOver before g
+      → Each (HasValues no_letter) (before ++ g ∷ after) → (j : ℕ) → j < length places → get_or places j 0 ≡ length before → IsFree before g
   free_at before g after F places known is independent all j l at = peels (length after) before g after refl F.products F.sums F.shape places known is independent all j l at

@@ -2,3 +2,5 @@ pub mod Steps
 pub mod Terms
 pub mod Prefix
 pub mod Free
+pub mod Narrow
+pub mod Writing

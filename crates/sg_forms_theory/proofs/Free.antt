@@ -22,7 +22,7 @@ use Rattle.sg_value_theory.proofs.TowerOf.{IsTowerOf, at_places, Ascending}
 use Rattle.sg_value_theory.proofs.PointsOf.{HasValues, HasUnits, points, points-are, points-late, next-place}
 use Rattle.sg_value_theory.proofs.Lists.{each-at}
 use Rattle.sg_value_theory.proofs.NoneMeansNone.{known_expressed}
-use Rattle.sg_forms_theory.specs.Free.{IsFree}
+use Rattle.sg_forms_theory.specs.Sums.{IsFree}
 use Rattle.sg_forms_theory.proofs.Prefix.{Split, split_places, Expressed, without-known, New, without-new, grows}
 
 no_factors : {X : Type 0} (n : ℕ) (xs : List X) → 0 ≡ length xs → xs ≡ []

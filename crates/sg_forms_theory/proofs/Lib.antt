@@ -4,3 +4,5 @@ pub mod Prefix
 pub mod Free
 pub mod Narrow
 pub mod Writing
+pub mod OneForm
+pub mod Listed

@@ -1,2 +1,3 @@
-pub mod Free
 pub mod Forms
+pub mod Sums
+pub mod Checks

@@ -1,6 +1,6 @@
 -- The sums at the places of a tower are new in values.
 --   free_at      each sum at one of the places is new over all sums before it
-use Rattle.std.proofs.Common.{◌≡◌, ℕ, zero, suc, ◌+◌, ◌<◌, ℤ, pos, ◌+ℤ◌, ◌-ℤ◌, ◌≤ℤ◌, refl, sym, ap, ◌∙◌, subst, List, [], ◌∷◌, ◌++◌, length, get_or, append_assoc, ◌⊎◌, inl, inr, arith}
+use Rattle.std.proofs.Common.{◌≡◌, ℕ, zero, suc, ◌<◌, ℤ, pos, ◌+ℤ◌, ◌≤ℤ◌, refl, sym, ap, ◌∙◌, subst, List, [], ◌∷◌, ◌++◌, length, get_or, append_assoc, ◌⊎◌, inl, inr, arith}
 use Rattle.std.proofs.lemmas.Int.{ints}
 use Rattle.std.proofs.lemmas.List.{get_or_append_left, get_or_push, length-append, length_push}
 use Rattle.sg_algebra.specs.Coefficients.{Each}
@@ -8,22 +8,18 @@ use Rattle.sg_algebra.proofs.Lists.{each_to}
 use Rattle.sg_algebra.proofs.Value.{Value, ◌-ᵛ◌}
 use Rattle.sg_spec.specs.Tree.{Tree, here}
 use Rattle.sg_spec.specs.Value.{val}
-use Rattle.sg_spec.specs.Generators.{Over}
-use Rattle.sg_spec.specs.Telescoping.{Agree}
-use Rattle.sg_spec.specs.Worth.{HasWorth}
 use Rattle.sg_spec.proofs.Worth.{Worth}
 use Rattle.sg_written.proofs.Worths.{worth_number}
 use Rattle.sg_written.proofs.Closes.{no_letter}
 use Rattle.sg_tower_theory.proofs.Nested.{Shape}
-use Rattle.sg_tower_theory.proofs.Difference.{delta}
-use Rattle.sg_tower_theory.proofs.Formal.{Formal, Element, elements, shifted, one_more, base, IsIndependent}
+use Rattle.sg_tower_theory.proofs.Formal.{Formal, Element, one_more, base, IsIndependent}
 use Rattle.sg_value_theory.proofs.Elements.{Point, HasElement}
 use Rattle.sg_value_theory.proofs.TowerOf.{IsTowerOf, at_places, Ascending}
-use Rattle.sg_value_theory.proofs.PointsOf.{HasValues, HasUnits, points, points-are, points-late, next-place}
+use Rattle.sg_value_theory.proofs.PointsOf.{HasValues, points, points-are, points-late, next-place}
 use Rattle.sg_value_theory.proofs.Lists.{each-at}
 use Rattle.sg_value_theory.proofs.NoneMeansNone.{known_expressed}
 use Rattle.sg_forms_theory.specs.Sums.{IsFree}
-use Rattle.sg_forms_theory.proofs.Prefix.{Split, split_places, Expressed, without-known, New, without-new, grows}
+use Rattle.sg_forms_theory.proofs.Prefix.{Split, split_places, without-known, New, without-new, grows}
 
 no_factors : {X : Type 0} (n : ℕ) (xs : List X) → 0 ≡ length xs → xs ≡ []
 no_factors n [] e = refl

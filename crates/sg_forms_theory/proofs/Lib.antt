@@ -6,3 +6,5 @@ pub mod Narrow
 pub mod Writing
 pub mod OneForm
 pub mod Listed
+pub mod Marking
+pub mod Simplest

@@ -6,8 +6,7 @@
 --   free-place         a sum at one of the places is new over all sums before it
 --   known-stands       each other sum agrees with its item
 --   known-below        its item holds no sum but those before it
-use Rattle.std.proofs.Common.{◌≡◌, ℕ, zero, suc, ◌+◌, ◌<◌, ◌≤◌, ℤ, ◌≤ℤ◌, refl, sym, ap, ◌∙◌, subst, List, [], ◌∷◌, ◌++◌, length, map, take, drop, get_or, arith}
-use Rattle.std.proofs.lemmas.Int.{ints}
+use Rattle.std.proofs.Common.{◌≡◌, ℕ, zero, suc, ◌<◌, ℤ, ◌≤ℤ◌, refl, sym, ap, ◌∙◌, subst, List, [], ◌∷◌, ◌++◌, length, map, take, drop, get_or, arith}
 use Rattle.std.proofs.lemmas.List.{length-map, length-take-le, get_or-map}
 use Rattle.sg_algebra.specs.Coefficients.{Each}
 use Rattle.sg_algebra.proofs.Place.{Pairwise}
@@ -28,7 +27,7 @@ use Rattle.sg_depth_theory.proofs.Sums.{units}
 use Rattle.sg_nested_theory.proofs.Summing.{all-have, frees-all, KnownAgree, known-at}
 use Rattle.sg_forms_theory.specs.Sums.{IsFree, IsEqualFrom}
 use Rattle.sg_forms_theory.specs.Checks.{TelescopesFrom, FailsBeyond}
-use Rattle.sg_forms_theory.proofs.Steps.{HasFrom, Stands, same_from, steps_from, fails_past, one_element}
+use Rattle.sg_forms_theory.proofs.Steps.{Stands, same_from, steps_from, fails_past, one_element}
 use Rattle.sg_forms_theory.proofs.Free.{free_at}
 
 split_at : {A : Type 0} (n : ℕ) (xs : List A) (d : A) → n < length xs → xs ≡ take n xs ++ get_or xs n d ∷ drop (suc n) xs

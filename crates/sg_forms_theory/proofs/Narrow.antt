@@ -1,13 +1,12 @@
 -- A canonical form in which the last sums stand with the exponent 0 alone is one over the sums before them.
 --   AreIdle n t       the first n powers of the term t, those of the last n sums, are 0
 --   form-narrow       so it is for all terms of a form
-use Rattle.std.proofs.Common.{◌≡◌, ◌≢◌, ℕ, zero, suc, ◌+◌, ◌==◌, ℤ, pos, refl, sym, ap, ap₂, ◌∙◌, subst, List, [], ◌∷◌, ◌++◌, length, map, reverse, cond, Bool, true, false, append-nil, append_assoc, ◌⊎◌, inl, inr, arith}
+use Rattle.std.proofs.Common.{◌≡◌, ℕ, zero, suc, ℤ, pos, refl, sym, ap, ap₂, ◌∙◌, subst, List, [], ◌∷◌, ◌++◌, length, map, reverse, append-nil, append_assoc, inl, inr, arith}
 use Rattle.std.proofs.lemmas.Int.{ints}
-use Rattle.std.proofs.lemmas.List.{length-reverse, reverse-append, length-append}
-use Rattle.std.specs.Int.Signed.{<ℤ_irrefl}
+use Rattle.std.proofs.lemmas.List.{reverse-append, length-append}
 use Rattle.sg_algebra.specs.Coefficients.{Each}
 use Rattle.sg_spec.specs.Tree.{Tree}
-use Rattle.sg_spec.specs.Canonical.{Plane, Written, Signed, total_tree, raised, first_power, later_powers, without, before_groups, groups, joined, signed_terms, element_tree, ranks, IsAfter, Descending}
+use Rattle.sg_spec.specs.Canonical.{Plane, Written, total_tree, raised, first_power, later_powers, without, before_groups, groups, joined, signed_terms, IsAfter, Descending}
 use Rattle.sg_forms_theory.specs.Forms.{IsFormOver}
 
 abbrev pub AreIdle : ℕ → List ℕ → Type 0

@@ -2,16 +2,15 @@
 --   frees-same        two lists that say what the sums are have the same new sums
 --   one-form          expressions over the same sums that agree from some point on have one simplest form
 --   form-agrees       and those with one simplest form agree
-use Rattle.std.proofs.Common.{◌≡◌, ℕ, zero, suc, ◌<◌, ℤ, pos, ◌+ℤ◌, ◌-ℤ◌, ◌≤ℤ◌, unsigned_abs, refl, sym, ap, ap₂, ◌∙◌, subst, List, [], ◌∷◌, length, take, get_or, Option, Some, None, arith}
+use Rattle.std.proofs.Common.{◌≡◌, ℕ, suc, ◌<◌, ℤ, pos, ◌+ℤ◌, ◌-ℤ◌, ◌≤ℤ◌, unsigned_abs, refl, sym, ap, subst, List, [], ◌∷◌, length, take, get_or, Option, Some, None, arith}
 use Rattle.std.proofs.lemmas.Int.{ints}
 use Rattle.sg_spec.specs.Tree.{Tree, here}
 use Rattle.sg_spec.specs.Value.{val, SameValue}
-use Rattle.sg_spec.specs.Generators.{Over}
 use Rattle.sg_spec.specs.Telescoping.{Agree}
 use Rattle.sg_spec.specs.Canonical.{Plane}
 use Rattle.sg_spec.proofs.Values.{val-proper, SameValue-sym, SameValue-trans}
 use Rattle.sg_forms_theory.specs.Forms.{IsFormOver}
-use Rattle.sg_forms_theory.specs.Sums.{IsFree, IsEqualFrom, frees, IsExpressed, IsStanding, AreStandings, IsSimplest}
+use Rattle.sg_forms_theory.specs.Sums.{IsFree, frees, IsExpressed, IsStanding, AreStandings, IsSimplest}
 
 flipped : (f g : Tree) (k : ℤ) → SameValue (val f (pos 0) k) (val g (pos 0) k) → SameValue (val g (pos 0) k) (val f (pos 0) k)
 flipped f g k h = SameValue-sym (val f (pos 0) k) (val g (pos 0) k) h

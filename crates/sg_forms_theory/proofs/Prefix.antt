@@ -2,7 +2,7 @@
 --   without-known      the last sum is expressed: the tower stands over those before it
 --   without-new        the last sum is new: the tower without it stands over those before it; `grows`: its last level is what the sum grows by
 --   split_places       whether the last sum is new
-use Rattle.std.proofs.Common.{◌≡◌, ◌≢◌, ℕ, zero, suc, ◌+◌, ◌<◌, ◌≤◌, ◌==◌, nat_le, Bool, ℤ, pos, ◌+ℤ◌, ◌≤ℤ◌, refl, sym, ap, ap₂, ◌∙◌, subst, List, [], ◌∷◌, ◌++◌, length, map, get_or, cond, true, false, ◌⊎◌, inl, inr, arith}
+use Rattle.std.proofs.Common.{◌≡◌, ◌≢◌, ℕ, zero, suc, ◌<◌, ◌≤◌, ◌==◌, nat_le, Bool, ℤ, pos, ◌+ℤ◌, ◌≤ℤ◌, refl, sym, ap, ap₂, ◌∙◌, subst, List, [], ◌∷◌, ◌++◌, length, get_or, cond, true, false, ◌⊎◌, inl, inr, arith}
 use Rattle.std.proofs.lemmas.List.{get_or_append_left, get_or_push, length-map, length_push}
 use Rattle.std.proofs.lemmas.Bool.{eq-eqb}
 use Rattle.std.proofs.lemmas.Bool.Decides.{eqb_tells}
@@ -13,13 +13,13 @@ use Rattle.sg_algebra.proofs.Place.{Pairwise}
 use Rattle.sg_spec.specs.Tree.{Tree, here}
 use Rattle.sg_spec.specs.Worth.{HasWorth}
 use Rattle.sg_tower_theory.proofs.Slices.{pairwise_length}
-use Rattle.sg_tower_theory.proofs.Nested.{NestedR, Shape}
-use Rattle.sg_tower_theory.proofs.Formal.{Formal, Element, elements, one_more, base, factors, own_sum}
+use Rattle.sg_tower_theory.proofs.Nested.{Shape}
+use Rattle.sg_tower_theory.proofs.Formal.{Formal, Element, elements, one_more, base, own_sum}
 use Rattle.sg_value_theory.proofs.Elements.{Point, HasElement, HasIn, IsPolynomialAt, Follows, FollowsIn}
 use Rattle.sg_value_theory.proofs.Evaluation.{Evaluation}
 use Rattle.sg_value_theory.proofs.Polynomials.{raised-constant, at_unique}
 use Rattle.sg_value_theory.proofs.TreePoints.{AreValues, IsPointOf, Agrees}
-use Rattle.sg_value_theory.proofs.TowerOf.{IsTowerOf, at_places, up_to, Ascending, HoldsIn, HoldsBelow}
+use Rattle.sg_value_theory.proofs.TowerOf.{IsTowerOf, at_places, up_to, Ascending, HoldsBelow}
 use Rattle.sg_value_theory.proofs.PointsOf.{HasValues}
 use Rattle.sg_value_theory.proofs.Evaluations.{evaluation, same-at}
 use Rattle.sg_value_theory.proofs.Lists.{each-at, at_places-more, at_places-new, up_to-more}
@@ -185,7 +185,7 @@ module _ {d : ℕ} where
   follows_alike αs (suc n) sh p q ts us e f h = (
     follows_alike αs n sh.0 p q ts us (λ i l. e i (omega (arith, l))) (λ i l. f i (omega (arith, l))) h.0,
     subst (HasIn αs n p sh.1) (ap₂ ◌-ᵛ◌ (f n (omega arith)) (e n (omega arith)))
-    (same-at (record { products = αs; sums = n; shape = sh.0 }) (with_sums p ts) p refl (λ i l. refl) (λ i l. e i (omega (arith, l))) sh.1 (us n -ᵛ ts n) h.1),
+        (same-at (record { products = αs; sums = n; shape = sh.0 }) (with_sums p ts) p refl (λ i l. refl) (λ i l. e i (omega (arith, l))) sh.1 (us n -ᵛ ts n) h.1),
   )
 
 module _ {d : ℕ} (letter : Value d) (s : ℤ) (ps before : List Tree) (g : Tree) (F : Formal d) (β : Element F) (places : List ℕ) (known : List (Element (one_more F β)))
@@ -218,8 +218,8 @@ module _ {d : ℕ} (letter : Value d) (s : ℤ) (ps before : List Tree) (g : Tre
   extends p i = (
     i.0,
     subst (λ (gs : List Tree). AreValues letter p.variable gs (with_last p)) (sym (at_places-new before g places inside))
-    (values_join letter p.variable (at_places before places) g p.sums (with_last p) i.1 (λ j l. kept p j (let e = counted in omega (arith, l, e)))
-    (subst (HasWorth letter g p.variable) (sym (last p (length (at_places before places)) counted)) (has p.variable).1)),
+        (values_join letter p.variable (at_places before places) g p.sums (with_last p) i.1 (λ j l. kept p j (let e = counted in omega (arith, l, e)))
+        (subst (HasWorth letter g p.variable) (sym (last p (length (at_places before places)) counted)) (has p.variable).1)),
   )
 
   follows-before : (p q : Point d) → s ≤ℤ p.variable → q.variable ≡ p.variable +ℤ pos 1 → IsBefore p → IsBefore q → Follows F p q

@@ -4,7 +4,7 @@
 --   steps_from        where the elements telescope, so do the expressions, from the start on
 --   fails_past        where they don't, the equation fails beyond every point
 --   one_element       expressions that agree from some point on have equal elements, where one says what its element says
-use Rattle.std.proofs.Common.{◌≡◌, ℕ, suc, ◌+◌, ◌<◌, ◌≤◌, ℤ, pos, ◌+ℤ◌, ◌-ℤ◌, ◌≤ℤ◌, unsigned_abs, refl, sym, ap, ◌∙◌, subst, List, [], ◌∷◌, length, arith}
+use Rattle.std.proofs.Common.{◌≡◌, ℕ, ◌+◌, ◌≤◌, ℤ, pos, ◌+ℤ◌, ◌-ℤ◌, ◌≤ℤ◌, unsigned_abs, refl, ap, ◌∙◌, subst, List, [], ◌∷◌, arith}
 use Rattle.std.proofs.lemmas.Int.{ints}
 use Rattle.sg_algebra.specs.Coefficients.{Each}
 use Rattle.sg_algebra.proofs.Value.{Value, ◌+ᵛ◌, ◌-ᵛ◌, neg_value, zero_value}
@@ -16,14 +16,14 @@ use Rattle.sg_spec.specs.Telescoping.{Steps, Failing, Agree, difference_of}
 use Rattle.sg_spec.specs.Worth.{HasWorth}
 use Rattle.sg_spec.proofs.Values.{val-proper}
 use Rattle.sg_spec.proofs.Worth.{Worth, worth_same, same_worth}
-use Rattle.sg_written.proofs.Worths.{worth_number, number_worth}
+use Rattle.sg_written.proofs.Worths.{worth_number}
 use Rattle.sg_written.proofs.Closes.{no_letter}
 use Rattle.sg_tower_theory.proofs.Difference.{delta}
 use Rattle.sg_tower_theory.proofs.Formal.{Formal, Element, domain_of, elements, shifted, IsIndependent, lawful_formal}
 use Rattle.sg_value_theory.proofs.Elements.{Point, HasElement, Follows}
 use Rattle.sg_value_theory.proofs.TreePoints.{IsPointOf, Agrees, Expresses}
 use Rattle.sg_value_theory.proofs.TowerOf.{IsTowerOf, at_places}
-use Rattle.sg_value_theory.proofs.PointsOf.{HasValues, HasUnits, point_at, is-point, points, points-are, points-late, run}
+use Rattle.sg_value_theory.proofs.PointsOf.{HasValues, HasUnits, point_at, is-point, points, points-are, run}
 use Rattle.sg_value_theory.proofs.Evaluations.{evaluation}
 use Rattle.sg_value_theory.proofs.Moving.{moves}
 use Rattle.sg_value_theory.proofs.First.{zero_only}
@@ -72,7 +72,7 @@ module _ (s : ℤ) (ps ss : List Tree) (F : Formal 0) (places : List ℕ) (known
       let follows : Follows F p q = is.follows p q l refl (here_is k) (here_is (k +ℤ pos 1)) in
       let moved = moves F p q follows y w.0 (g_stands q m (here_is (k +ℤ pos 1)) w.0 w.1) in
       let grown = V.same (delta (shifted F) y) x (w.0 +ᵛ neg_value u.0) telescopes
-          (V.add_has ((shifted F).σ.on y) ((elements F).⊟ y) w.0 (neg_value u.0) moved (V.neg_has y u.0 (g_stands p l (here_is k) u.0 u.1))) in
+      (V.add_has ((shifted F).σ.on y) ((elements F).⊟ y) w.0 (neg_value u.0) moved (V.neg_has y u.0 (g_stands p l (here_is k) u.0 u.1))) in
       let e : w.0 -ᵛ u.0 ≡ v.0 = V.unique x (w.0 +ᵛ neg_value u.0) v.0 grown (f_stands p l (here_is k) v.0 v.1) in
       worth_same (both difference_of (val g (pos 0) (k +ℤ pos 1)) (val g (pos 0) k)) (val f (pos 0) k) v.0
       (difference_proper (val g (pos 0) (k +ℤ pos 1)) (val g (pos 0) k) (val-proper g (pos 0) (k +ℤ pos 1)) (val-proper g (pos 0) k)) (val-proper f (pos 0) k)
@@ -135,6 +135,6 @@ module _ (s : ℤ) (ps ss : List Tree) (F : Formal 0) (places : List ℕ) (known
             let x_has = stands (place j) (late j) are c.0 c.1 in
             let h_has = expresses (place j) are a.0 a.1 in
             let e : a.0 ≡ c.0 = number_unique (val h (pos 0) k) a.0 c.0 (to_number h k a.0 h_has)
-                (same_worth (val h (pos 0) k) (val t (pos 0) k) c.0 (val-proper h (pos 0) k) (val-proper t (pos 0) k) (agree.same k (reach agree.from j (omega (arith, l)))) (to_number t k c.0 c.1)) in
+            (same_worth (val h (pos 0) k) (val t (pos 0) k) c.0 (val-proper h (pos 0) k) (val-proper t (pos 0) k) (agree.same k (reach agree.from j (omega (arith, l)))) (to_number t k c.0 c.1)) in
             V.unique ((elements F).◌⊞◌ y ((elements F).⊟ x)) v (a.0 +ᵛ neg_value c.0) i (V.add_has y ((elements F).⊟ x) a.0 (neg_value c.0) a.1 (V.neg_has x c.0 x_has))
             ∙ cancel a.0 c.0 e

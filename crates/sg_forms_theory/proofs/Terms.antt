@@ -2,21 +2,20 @@
 --   one_flat          equal elements have one list of terms in descending order
 --   LiesBelow n m es  of the exponents of n sums, the last first, those from the sum m on are 0
 --   terms_below       an element that holds no sum from m on has such terms alone
-use Rattle.std.proofs.Common.{◌≡◌, ◌≢◌, ℕ, zero, suc, ◌+◌, ◌<◌, ◌≤◌, ℤ, pos, negsuc, ◌≤ℤ◌, ◌<ℤ◌, unsigned_abs, refl, sym, ap, ap₂, ◌∙◌, subst, List, [], ◌∷◌, length, reverse, drop, ◌⊎◌, inl, inr, arith}
+use Rattle.std.proofs.Common.{◌≡◌, ℕ, zero, suc, ◌+◌, ◌<◌, ◌≤◌, ℤ, pos, negsuc, ◌<ℤ◌, refl, sym, ap, ap₂, ◌∙◌, subst, List, [], ◌∷◌, length, reverse, ◌⊎◌, inl, inr, arith}
 use Rattle.std.proofs.lemmas.Int.{ints}
 use Rattle.std.proofs.lemmas.Bool.{cases_order}
-use Rattle.std.proofs.lemmas.List.{length-reverse, reverse-reverse, length-map}
+use Rattle.std.proofs.lemmas.List.{length-reverse, reverse-reverse}
 use Rattle.sg_algebra.specs.Ring.{Ring}
 use Rattle.sg_algebra.specs.Coefficients.{Each, coef}
 use Rattle.sg_algebra.proofs.Solver.{ring, by, reads}
-use Rattle.sg_algebra.proofs.Lists.{each_to}
 use Rattle.sg_algebra.proofs.Value.{Value, ◌+ᵛ◌, zero_value}
 use Rattle.sg_algebra.proofs.ValueField.{ValueR}
 use Rattle.sg_tower_theory.proofs.Nested.{NestedR}
-use Rattle.sg_tower_theory.proofs.Formal.{Formal, Element, elements, base, factors, repaired}
+use Rattle.sg_tower_theory.proofs.Formal.{Formal, Element, elements, base}
 use Rattle.sg_tower_theory.proofs.Flat.{Term, IsAfter, DescendingTerms, IsFlat, of_term, of_terms, exponent_of, without_first}
 use Rattle.sg_value_theory.proofs.TowerOf.{HoldsIn, HoldsBelow}
-use Rattle.sg_value_theory.proofs.FlatValues.{Fits, Differ, differ-sym, coef_in, coef_in_cong, coef_in-add, coef_in-zero, coef_in-term, coef_in-other, one, all, AllFit, AllApart, Apart, coefficients-are}
+use Rattle.sg_value_theory.proofs.FlatValues.{Fits, Differ, differ-sym, coef_in, coef_in_cong, coef_in-add, coef_in-zero, coef_in-other, one, all, AllFit, coefficients-are}
 use Rattle.sg_value_theory.proofs.FlatTerms.{after_trans, after-differ, fits_flat, descending-apart}
 
 -- ---- Which of two lists comes first
@@ -106,7 +105,7 @@ module _ {d : ℕ} (αs : List (Value (suc d))) (n : ℕ) where
       go (inr (inl c)) again =
           let exponents : t.exponents ≡ u.exponents = sym (reverse-reverse t.exponents) ∙ ap reverse c ∙ reverse-reverse u.exponents in
           let coefficient : t.coefficient ≡ u.coefficient =
-              sym (first t ts f h) ∙ coef_in_cong αs n (reverse t.exponents) (all αs n (t ∷ ts)) (all αs n (u ∷ us)) e ∙ ap (λ (es : List ℤ). coef_in αs n es (all αs n (u ∷ us))) c ∙ first u us g k in
+          sym (first t ts f h) ∙ coef_in_cong αs n (reverse t.exponents) (all αs n (t ∷ ts)) (all αs n (u ∷ us)) e ∙ ap (λ (es : List ℤ). coef_in αs n es (all αs n (u ∷ us))) c ∙ first u us g k in
           let same : t ≡ u = ap₂ (λ (es : List ℤ) (x : Value (suc d)). made es x) exponents coefficient in
           ap₂ ◌∷◌ same (again (cancelled (one αs n u) (all αs n ts) (all αs n us) (subst (λ (w : Term d). E.◌≈◌ (E.◌⊞◌ (one αs n w) (all αs n ts)) (all αs n (u ∷ us))) same e)))
 

@@ -2,16 +2,16 @@
 --   IsTermBy W r t u     u is the term t as it is written, over r products
 --   form-of              what is written of the terms of an element is a form; `idle-of`: sums that it doesn't hold have the exponent 0
 --   element-of           each form is written of the terms of an element
-use Rattle.std.proofs.Common.{◌≡◌, ◌≢◌, ℕ, zero, suc, ◌+◌, ◌-◌, ◌<◌, ◌≤◌, ℤ, pos, negsuc, ◌≤ℤ◌, ◌<ℤ◌, unsigned_abs, refl, sym, ap, ap₂, ◌∙◌, subst, List, [], ◌∷◌, ◌++◌, length, map, reverse, take, drop, append-nil, ◌⊎◌, inl, inr, arith}
+use Rattle.std.proofs.Common.{◌≡◌, ℕ, zero, suc, ◌+◌, ◌≤◌, ℤ, pos, negsuc, ◌≤ℤ◌, unsigned_abs, refl, sym, ap, ap₂, ◌∙◌, subst, List, [], ◌∷◌, ◌++◌, length, map, reverse, take, drop, append-nil, inl, inr, arith}
 use Rattle.std.proofs.lemmas.Int.{ints}
-use Rattle.std.proofs.lemmas.List.{length-map, length-reverse, length-take, length-drop, reverse-append, reverse-reverse, take-append-drop, map-append}
+use Rattle.std.proofs.lemmas.List.{length-map, length-reverse, length-drop, reverse-append, reverse-reverse, take-append-drop, map-append}
 use Rattle.sg_algebra.specs.Coefficients.{Each}
 use Rattle.sg_algebra.proofs.Place.{Pairwise}
 use Rattle.sg_algebra.proofs.Value.{Value, zero_value}
 use Rattle.sg_spec.specs.Tree.{Tree}
-use Rattle.sg_spec.specs.Canonical.{Plane, Written, element_tree, first_power, later_powers, ranks, Descending, IsAfter}
+use Rattle.sg_spec.specs.Canonical.{Plane, Written, element_tree, ranks, Descending, IsAfter}
 use Rattle.sg_tower_theory.proofs.Formal.{Formal, Element, elements}
-use Rattle.sg_tower_theory.proofs.Flat.{Term, DescendingTerms, IsLowestForm, IsFlat, of_terms, exponent_of, without_first, IsAfter as ComesAfter}
+use Rattle.sg_tower_theory.proofs.Flat.{Term, DescendingTerms, IsLowestForm, IsFlat, of_terms, IsAfter as ComesAfter}
 use Rattle.sg_forms_theory.specs.Forms.{IsFormOver}
 use Rattle.sg_forms_theory.proofs.Terms.{LiesBelow}
 use Rattle.sg_forms_theory.proofs.Narrow.{AreIdle, IsFormBy}
@@ -130,12 +130,15 @@ module _ {d : ℕ} (W : Value (suc d) → Plane → Plane → Type 0) where
 
     written-at : (r : ℕ) (us : List Written) (h : Each (λ u. Q u.upper u.lower) us) (n : ℕ) → r ≡ 0 → Each (λ t. (length t.powers ≡ n) × (t.exponents ≡ [])) us → Pairwise (IsTermBy W r) (terms_at us h) us
     written-at r [] h n z s = tt
-    written-at r (u ∷ us) h n z s = (record {
-      powers =
-          sym (ap (λ (i : ℕ). reverse (map unsigned_abs (drop i (map (λ e. pos e) (reverse u.powers))))) z ∙ ap reverse (abs-natural (reverse u.powers)) ∙ reverse-reverse u.powers);
-      exponents = s.0.1 ∙ sym (ap (λ (i : ℕ). take i (map (λ e. pos e) (reverse u.powers))) z);
-      coefficient = (q u.upper u.lower h.0).1;
-    }, written-at r us h.1 n z s.1)
+    written-at r (u ∷ us) h n z s = (
+      record {
+        powers =
+            sym (ap (λ (i : ℕ). reverse (map unsigned_abs (drop i (map (λ e. pos e) (reverse u.powers))))) z ∙ ap reverse (abs-natural (reverse u.powers)) ∙ reverse-reverse u.powers);
+        exponents = s.0.1 ∙ sym (ap (λ (i : ℕ). take i (map (λ e. pos e) (reverse u.powers))) z);
+        coefficient = (q u.upper u.lower h.0).1;
+      },
+      written-at r us h.1 n z s.1,
+    )
 
     sized-at : (r m n : ℕ) (us : List Written) (h : Each (λ u. Q u.upper u.lower) us) → r ≡ 0 → n ≡ m → Each (λ t. (length t.powers ≡ n) × (t.exponents ≡ [])) us → Each (λ t. length t.exponents ≡ r + m) (terms_at us h)
     sized-at r m n [] h z e s = tt
@@ -159,7 +162,7 @@ module _ {d : ℕ} (W : Value (suc d) → Plane → Plane → Type 0) where
     descends-at n (u ∷ []) h s i = tt
     descends-at n (u ∷ (w ∷ us)) h s i = (
       after-back (reverse (map (λ e. pos e) (reverse u.powers))) (reverse (map (λ e. pos e) (reverse w.powers)))
-      (subst (λ (l : List ℤ). IsAfter l (reverse (map (λ e. pos e) (reverse w.powers)))) (ranks-of u s.0.1) (subst (IsAfter (ranks u)) (ranks-of w s.1.0.1) i.0)),
+          (subst (λ (l : List ℤ). IsAfter l (reverse (map (λ e. pos e) (reverse w.powers)))) (ranks-of u s.0.1) (subst (IsAfter (ranks u)) (ranks-of w s.1.0.1) i.0)),
       descends-at n (w ∷ us) h.1 s.1 i.1,
     )
 

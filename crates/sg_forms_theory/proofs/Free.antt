@@ -1,0 +1,171 @@
+-- The sums at the places of a tower are new in values.
+--   free_at      each sum at one of the places is new over all sums before it
+use Rattle.std.proofs.Common.{◌≡◌, ℕ, zero, suc, ◌<◌, ℤ, pos, ◌+ℤ◌, ◌≤ℤ◌, refl, sym, ap, ◌∙◌, subst, List, [], ◌∷◌, ◌++◌, length, get_or, append_assoc, ◌⊎◌, inl, inr, arith}
+use Rattle.std.proofs.lemmas.Int.{ints}
+use Rattle.std.proofs.lemmas.List.{get_or_append_left, get_or_push, length-append, length_push}
+use Rattle.sg_algebra.specs.Coefficients.{Each}
+use Rattle.sg_algebra.proofs.Lists.{each_to}
+use Rattle.sg_algebra.proofs.Value.{Value, ◌-ᵛ◌}
+use Rattle.sg_spec.specs.Tree.{Tree, here}
+use Rattle.sg_spec.specs.Value.{val}
+use Rattle.sg_spec.proofs.Worth.{Worth}
+use Rattle.sg_written.proofs.Worths.{worth_number}
+use Rattle.sg_written.proofs.Closes.{no_letter}
+use Rattle.sg_tower_theory.proofs.Nested.{Shape}
+use Rattle.sg_tower_theory.proofs.Formal.{Formal, Element, one_more, base, IsIndependent}
+use Rattle.sg_value_theory.proofs.Elements.{Point, HasElement}
+use Rattle.sg_value_theory.proofs.TowerOf.{IsTowerOf, at_places, Ascending}
+use Rattle.sg_value_theory.proofs.PointsOf.{HasValues, points, points-are, points-late, next-place}
+use Rattle.sg_value_theory.proofs.Lists.{each-at}
+use Rattle.sg_value_theory.proofs.NoneMeansNone.{known_expressed}
+use Rattle.sg_forms_theory.specs.Sums.{IsFree}
+use Rattle.sg_forms_theory.proofs.Prefix.{Split, split_places, without-known, New, without-new, grows}
+
+no_factors : {X : Type 0} (n : ℕ) (xs : List X) → 0 ≡ length xs → xs ≡ []
+no_factors n [] e = refl
+no_factors n (x ∷ xs) e = absurd (omega (arith, e))
+
+each_left : {A : Type 0} (P : A → Type 0) (xs ys : List A) → Each P (xs ++ ys) → Each P xs
+each_left P [] ys h = tt
+each_left P (x ∷ xs) ys h = (h.0, each_left P xs ys h.1)
+
+each_right : {A : Type 0} (P : A → Type 0) (xs ys : List A) → Each P (xs ++ ys) → Each P ys
+each_right P [] ys h = h
+each_right P (x ∷ xs) ys h = each_right P xs ys h.1
+
+each_place : (P : Tree → Type 0) (ss : List Tree) (places : List ℕ) → Each P ss → Each (λ i. i < length ss) places → Each P (at_places ss places)
+each_place P ss [] h i = tt
+each_place P ss (n ∷ ns) h i = (each-at P ss n here i.0 h, each_place P ss ns h i.1)
+
+module _ (s : ℤ) where
+  -- ---- The last of the sums
+
+  module _ (before : List Tree) (g : Tree) (F : Formal 0) (β : Element F) (places : List ℕ) (known : List (Element (one_more F β))) (is : IsTowerOf no_letter s [] (before ++ g ∷ []) (one_more F β) (places ++ length before ∷ []) known)
+      (ascends : Ascending places) (inside : Each (λ i. i < length before) places) (all : Each (HasValues no_letter) before) (has : HasValues no_letter g) (independent : IsIndependent (one_more F β)) where
+    lower : New no_letter s [] before g F β places known is ascends inside has
+    lower = without-new no_letter s [] before g F β places known is ascends inside has
+
+    frees : Each (HasValues no_letter) (at_places before places)
+    frees = each_place (HasValues no_letter) before places all inside
+
+    least : s ≤ℤ s
+    least = omega (arith, ints)
+
+    abbrev place : ℕ → Point 0
+    place j = points no_letter s [] before F places lower.known_before lower.tower tt frees s least j
+
+    grown : (k : ℕ) → (u : Value 0) × (u' : Value 0) × (v : Value 0) × Worth (val g (pos 0) (s +ℤ pos k)) u × Worth (val g (pos 0) (s +ℤ pos (suc k))) u'
+        × HasElement F (place k) β v × (u' -ᵛ u ≡ v)
+    grown k =
+        let u = has (s +ℤ pos k) in
+        let w = has (s +ℤ pos (suc k)) in (
+          u.0,
+          w.0,
+          w.0 -ᵛ u.0,
+          worth_number (pos 0) g (s +ℤ pos k) u.0 u.1,
+          worth_number (pos 0) g (s +ℤ pos (suc k)) w.0 w.1,
+          grows no_letter s [] before g F β places known is ascends inside has (place k) (place (suc k))
+              (points-late no_letter s [] before F places lower.known_before lower.tower tt frees s least k)
+              (next-place no_letter s [] before F places lower.known_before lower.tower tt frees s least k)
+              (points-are no_letter s [] before F places lower.known_before lower.tower tt frees s least k)
+              (points-are no_letter s [] before F places lower.known_before lower.tower tt frees s least (suc k)),
+          refl,
+        )
+
+    free_last : IsFree before g
+    free_last e over agree =
+        let found = known_expressed s [] before F places lower.known_before lower.tower tt frees s least independent.0 (no_factors 0 F.products lower.tower.adjoined) all e g β over grown agree in
+        independent.1 found.0 found.1
+
+  -- ---- Any of the sums
+
+  abbrev made : (αs : List (Value 1)) (n : ℕ) → Shape (base αs) n → Formal 0
+  made αs n sh = record { products = αs; sums = n; shape = sh }
+
+  -- so many sums stand behind g
+  abbrev Peels : ℕ → List Tree → Tree → Type 0
+  Peels k before g =
+      (after : List Tree) → length after ≡ k → (αs : List (Value 1)) (n : ℕ) (sh : Shape (base αs) n) (places : List ℕ) (known : List (Element (made αs n sh)))
+      → IsTowerOf no_letter s [] (before ++ g ∷ after) (made αs n sh) places known → IsIndependent (made αs n sh) → Each (HasValues no_letter) (before ++ g ∷ after)
+      → (j : ℕ) → j < length places → get_or places j 0 ≡ length before → IsFree before g
+
+  inside-of : (before : List Tree) (g : Tree) (places : List ℕ) → Each (λ i. i < length (before ++ g ∷ [])) places → Each (λ i. i < suc (length before)) places
+  inside-of before g places h = each_to (λ i. i < length (before ++ g ∷ [])) (λ i. i < suc (length before)) places (λ i l. let e = length_push before g in omega (arith, l, e)) h
+
+  begun : (before : List Tree) (g : Tree) → Peels 0 before g
+  begun before g (x ∷ after) e αs n sh places known is independent all j l at = absurd (omega (arith, e))
+  begun before g [] e αs n sh places known is independent all j l at = cases (split_places (length before) places is.ascending (inside-of before g places is.inside))
+    where
+      last : (n : ℕ) (sh : Shape (base αs) n) (places' : List ℕ) (known : List (Element (made αs n sh))) → IsTowerOf no_letter s [] (before ++ g ∷ []) (made αs n sh) (places' ++ length before ∷ []) known → IsIndependent (made αs n sh)
+          → Ascending places' → Each (λ i. i < length before) places' → IsFree before g
+      last zero sh places' known is independent a i = absurd (let z = is.size in let m = length_push places' (length before) in omega (arith, z, m))
+      last (suc n) sh places' known is independent a i =
+          free_last before g (made αs n sh.0) sh.1 places' known is a i (each_left (HasValues no_letter) before (g ∷ []) all) (each_right (HasValues no_letter) before (g ∷ []) all).0 independent
+
+      cases : Split (length before) places → IsFree before g
+      cases (inl h) = absurd (let k = each-at (λ i. i < length before) places j 0 l h in let e = at in omega (arith, k, e))
+      cases (inr w) = last n sh w.0 known (subst (λ (is' : List ℕ). IsTowerOf no_letter s [] (before ++ g ∷ []) (made αs n sh) is' known) w.1 is) independent w.2 w.3
+
+  snoc : (x : Tree) (xs : List Tree) → (ys : List Tree) × (y : Tree) × (x ∷ xs ≡ ys ++ y ∷ []) × (length ys ≡ length xs)
+  snoc x [] = ([], x, refl, refl)
+  snoc x (z ∷ zs) = go (snoc z zs)
+    where
+      go : (ys : List Tree) × (y : Tree) × (z ∷ zs ≡ ys ++ y ∷ []) × (length ys ≡ length zs) → (ys : List Tree) × (y : Tree) × (x ∷ (z ∷ zs) ≡ ys ++ y ∷ []) × (length ys ≡ suc (length zs))
+      go r = (x ∷ r.0, r.1, ap (λ (l : List Tree). x ∷ l) r.2, ap suc r.3)
+
+  -- the places before the last
+  left_place : (places : List ℕ) (n j m : ℕ) → j < length (places ++ n ∷ []) → get_or (places ++ n ∷ []) j 0 ≡ m → m < n → (j < length places) × (get_or places j 0 ≡ m)
+  left_place places n j m l e less = cases (below_or j (length places) (let k = length_push places n in omega (arith, l, k)))
+    where
+      below_or : (i n : ℕ) → i < suc n → (i < n) ⊎ (i ≡ n)
+      below_or i n l = grind (arith, l)
+
+      cases : (j < length places) ⊎ (j ≡ length places) → (j < length places) × (get_or places j 0 ≡ m)
+      cases (inl h) = (h, sym (get_or_append_left places (n ∷ []) 0 j h) ∙ e)
+      cases (inr h) = absurd (let k = get_or_push places n 0 j (sym h) in omega (arith, k, e, less))
+
+  module _ (k : ℕ) (before : List Tree) (g : Tree) (again : Peels k before g) (init : List Tree) (x : Tree) (e : length init ≡ k) where
+    abbrev front : List Tree
+    front = before ++ g ∷ init
+
+    longer : length before < length front
+    longer = let m = length-append before (g ∷ init) in omega (arith, m)
+
+    step : (αs : List (Value 1)) (n : ℕ) (sh : Shape (base αs) n) (places : List ℕ) (known : List (Element (made αs n sh))) → IsTowerOf no_letter s [] (front ++ x ∷ []) (made αs n sh) places known
+        → IsIndependent (made αs n sh) → Each (HasValues no_letter) (front ++ x ∷ []) → (j : ℕ) → j < length places → get_or places j 0 ≡ length before → IsFree before g
+    step αs n sh places known is independent all j l at = cases (split_places (length front) places is.ascending (inside-of front x places is.inside))
+      where
+        last : (n : ℕ) (sh : Shape (base αs) n) (places' : List ℕ) (known : List (Element (made αs n sh))) → IsTowerOf no_letter s [] (front ++ x ∷ []) (made αs n sh) (places' ++ length front ∷ []) known → IsIndependent (made αs n sh)
+            → Ascending places' → Each (λ i. i < length front) places' → (j < length places') × (get_or places' j 0 ≡ length before) → IsFree before g
+        last zero sh places' known is independent a i w = absurd (let z = is.size in let m = length_push places' (length front) in omega (arith, z, m))
+        last (suc n) sh places' known is independent a i w =
+            let has = (each_right (HasValues no_letter) front (x ∷ []) all).0 in
+            let lower = without-new no_letter s [] front x (made αs n sh.0) sh.1 places' known is a i has in
+            again init e αs n sh.0 places' lower.known_before lower.tower independent.0 (each_left (HasValues no_letter) front (x ∷ []) all) j w.0 w.1
+
+        cases : Split (length front) places → IsFree before g
+        cases (inl h) =
+            let r = without-known no_letter s [] front x (made αs n sh) places known is h in
+            again init e αs n sh places r.known_before r.tower independent (each_left (HasValues no_letter) front (x ∷ []) all) j l at
+        cases (inr w) =
+            last n sh w.0 known (subst (λ (is' : List ℕ). IsTowerOf no_letter s [] (front ++ x ∷ []) (made αs n sh) is' known) w.1 is) independent w.2 w.3
+            (left_place w.0 (length front) j (length before) (subst (λ (is' : List ℕ). j < length is') w.1 l) (ap (λ (is' : List ℕ). get_or is' j 0) (sym w.1) ∙ at) longer)
+
+  next : (k : ℕ) (before : List Tree) (g : Tree) → Peels k before g → Peels (suc k) before g
+  next k before g again [] e αs n sh places known is independent all j l at = absurd (omega (arith, e))
+  next k before g again (x ∷ after) e αs n sh places known is independent all j l at = go (snoc x after)
+    where
+      go : (ys : List Tree) × (y : Tree) × (x ∷ after ≡ ys ++ y ∷ []) × (length ys ≡ length after) → IsFree before g
+      go r =
+          let regroup : before ++ g ∷ (x ∷ after) ≡ (before ++ g ∷ r.0) ++ r.1 ∷ [] = ap (λ (zs : List Tree). before ++ g ∷ zs) r.2 ∙ sym (append_assoc before (g ∷ r.0) (r.1 ∷ [])) in
+          let size = r.3 in
+          step k before g again r.0 r.1 (omega (arith, size, e)) αs n sh places known (subst (λ (gs : List Tree). IsTowerOf no_letter s [] gs (made αs n sh) places known) regroup is) independent
+          (subst (λ (gs : List Tree). Each (HasValues no_letter) gs) regroup all) j l at
+
+  peels : (k : ℕ) (before : List Tree) (g : Tree) → Peels k before g
+  peels zero before g = begun before g
+  peels (suc k) before g = next k before g (peels k before g)
+
+  pub free_at : (before : List Tree) (g : Tree) (after : List Tree) (F : Formal 0) (places : List ℕ) (known : List (Element F)) → IsTowerOf no_letter s [] (before ++ g ∷ after) F places known → IsIndependent F
+      → Each (HasValues no_letter) (before ++ g ∷ after) → (j : ℕ) → j < length places → get_or places j 0 ≡ length before → IsFree before g
+  free_at before g after F places known is independent all j l at = peels (length after) before g after refl F.products F.sums F.shape places known is independent all j l at

@@ -59,7 +59,7 @@ module _ (s : ℤ) (ps ss : List Tree) {E : Type 0} (F : Formal 0) (m : E → El
   abbrev pub HasFromStart : Tree → Type 0
   HasFromStart t = (k : ℤ) → s ≤ℤ k → (v : Value 0) × HasWorth no_letter t k v
 
-  stands : (t : Tree) (x : E) → IsItemOf t x → StandsHere t x
+  pub stands : (t : Tree) (x : E) → IsItemOf t x → StandsHere t x
   stands t x value q l i = value q (known-at s ps ss F m places known is sound q l i)
 
   module _ (f g : Tree) (x y : E) (f_has : HasFromStart f) (g_has : HasFromStart g) (f_is : IsItemOf f x) (g_is : IsItemOf g y) where

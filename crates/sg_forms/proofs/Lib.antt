@@ -1,0 +1,4 @@
+pub mod Writing
+pub mod Facts
+pub mod Towers
+pub mod Commands

@@ -1,0 +1,5 @@
+pub mod Wholes
+pub mod Marks
+pub mod Commands
+pub mod Listed
+pub mod Jobs

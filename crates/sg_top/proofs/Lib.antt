@@ -1,5 +1,10 @@
-pub mod Sending
-pub mod Parted
+pub mod Answering
+pub mod Batching
 pub mod Defined
-pub mod Replies
+pub mod Items
 pub mod Listing
+pub mod Parted
+pub mod Replies
+pub mod Sampling
+pub mod Sending
+pub mod Texts

@@ -1,14 +1,15 @@
 -- The parts of expressions as they are read.
 --   polynomial_rational     a polynomial holds no sum and no product
 --   rational_over           nor does what is built from numerals, the variable and the operations alone; what is read for `sum` without them is so built
+--   no_prods_form           expressions without products have none that isn't in form
 --   lower_form              what may stand in the body of a product may stand elsewhere
 --   parts_form              each part of what is read is as what is read
 --   first_form              so is the part that is the first of some kind
 --   polynomial_spared       a polynomial has no parts
-use Rattle.std.proofs.Common.{◌≡◌, ℕ, zero, suc, ◌+◌, refl, ap, ap₂, subst, Bool, true, false, List, [], ◌∷◌, ◌++◌, ℤ}
+use Rattle.std.proofs.Common.{◌≡◌, ℕ, zero, suc, ◌+◌, refl, ap, ap₂, ◌∙◌, subst, Bool, true, false, List, [], ◌∷◌, ◌++◌, ℤ}
 use Rattle.sg_algebra.specs.Coefficients.{Each}
 use Rattle.sg_spec.specs.Tree.{Tree, numeral, here, param, add, neg, mul, div, power, sum_from, prod_from}
-use Rattle.sg_spec.specs.Generators.{Over, all_sums, all_prods, sums, prods, distinct}
+use Rattle.sg_spec.specs.Generators.{Over, all_sums, all_prods, sums, prods, distinct, concatenated}
 use Rattle.sg_spec.specs.Polynomials.{IsPolynomial}
 use Rattle.sg_spec.specs.Printing.{InForm}
 use Rattle.sg_spec.specs.Parts.{Part, Role, anywhere, divides, is_body, parts, own_part}
@@ -80,6 +81,13 @@ no_sums t h = ap (λ (ts : List Tree). distinct (ts ++ [])) h.0
 
 pub no_products : (t : Tree) → IsRational t → prods (t ∷ []) ≡ []
 no_products t h = ap (λ (ts : List Tree). distinct (ts ++ [])) h.1
+
+concatenated_plain : (es : List Tree) → Each HasNoProduct es → concatenated all_prods es ≡ []
+concatenated_plain [] h = refl
+concatenated_plain (e ∷ es) h = ap (λ (l : List Tree). l ++ concatenated all_prods es) h.0 ∙ concatenated_plain es h.1
+
+pub no_prods_form : (es : List Tree) → Each HasNoProduct es → Each (InForm false false) (prods es)
+no_prods_form es h = let none : prods es ≡ [] = ap distinct (concatenated_plain es h) in rw none tt
 
 -- ---- In reader's form
 

@@ -1,7 +1,8 @@
-pub mod Code
-pub mod Lines
-pub mod Stages
-pub mod Refusals
-pub mod Output
 pub mod Answer
+pub mod Code
+pub mod Ending
+pub mod Lines
+pub mod Output
+pub mod Refusals
+pub mod Stages
 pub mod Taking

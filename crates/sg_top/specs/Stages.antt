@@ -2,11 +2,14 @@
 --   input_bounds    what texts the program takes
 --   letters_of      the letters of the texts: the variable's and, where there is one, the parameter's
 --   lower_of        the lower limit from which on expressions must have values; `value` asks for none
---   AreRead         the texts read as these trees, one for one
+--   IsSum           a sum as a whole
+--   MayStand        the expression may stand at this place among the texts, counted from 1
+--   IsReadAt        the text at this place reads as this tree, and it may stand there
+--   AreReadFrom     the texts from this place on read as these trees, one for one; AreRead: from the first one on
 --   HasNoProduct    without products
 --   IsTaken         the command answers expressions like this one so far: `sum` those without products
-use Rattle.std.specs.Prelude.{◌≡◌, ℕ, nat_le, ℤ, Option, Some, None, List, [], ◌∷◌, codes}
-use Rattle.sg_spec.specs.Tree.{Tree}
+use Rattle.std.specs.Prelude.{◌≡◌, ℕ, ◌+◌, nat_le, ℤ, Option, Some, None, List, [], ◌∷◌, codes, ◌⊎◌}
+use Rattle.sg_spec.specs.Tree.{Tree, sum_from}
 use Rattle.sg_spec.specs.Generators.{all_prods}
 use Rattle.sg_spec.specs.Reading.{Bounds, IsRead}
 use Rattle.sg_words.specs.declared.asked.Command.{Command}
@@ -25,11 +28,27 @@ lower_of (Sum a) = Some a
 lower_of (Value k) = None
 lower_of (ValueAtParameter n k) = None
 
+abbrev pub IsSum : Tree → Type 0
+IsSum (sum_from from body) = Unit {0}
+IsSum e = ⊥
+
+-- what stands after `with` is a sum as a whole
+abbrev pub MayStand : Command → ℕ → Tree → Type 0
+MayStand (Sum a) item e = (item ≡ 1) ⊎ IsSum e
+MayStand (Value k) item e = Unit {0}
+MayStand (ValueAtParameter n k) item e = Unit {0}
+
+abbrev pub IsReadAt : Command → ℕ → List ℕ → Tree → Type 0
+IsReadAt c item text e = IsRead input_bounds (letters_of c) text e × MayStand c item e
+
+abbrev pub AreReadFrom : Command → ℕ → List (List ℕ) → List Tree → Type 0
+AreReadFrom c item [] [] = Unit {0}
+AreReadFrom c item [] (e ∷ es) = ⊥
+AreReadFrom c item (text ∷ texts) [] = ⊥
+AreReadFrom c item (text ∷ texts) (e ∷ es) = IsReadAt c item text e × AreReadFrom c (item + 1) texts es
+
 abbrev pub AreRead : Command → List (List ℕ) → List Tree → Type 0
-AreRead c [] [] = Unit {0}
-AreRead c [] (e ∷ es) = ⊥
-AreRead c (text ∷ texts) [] = ⊥
-AreRead c (text ∷ texts) (e ∷ es) = IsRead input_bounds (letters_of c) text e × AreRead c texts es
+AreRead c texts es = AreReadFrom c 1 texts es
 
 abbrev pub HasNoProduct : Tree → Type 0
 HasNoProduct e = all_prods e ≡ []

@@ -3,24 +3,26 @@
 --   IsOutcome      their expressions, which keep the counted limits; or the line of a refusal
 --   AreInForm      expressions as they are read
 --   IsRational     without sums and products
---   IsNoPolynomial no polynomial
+--   Alone          there is one expression alone, and it is such
+--   IsFirstLater   the expression at this place, counted from 1, is the first that holds a product
 --   IsLimited      a lower limit is from -1,000 to 1,000
+--   AreAdmitted    expressions that pass all tests of `sum`, with these facts; they are none of those for which no step is wide
 --   IsStopped      the reply of a step that doesn't fit
 --   IsPoleCause    what the search for poles tells once the counted limits are kept
 --   IsPoleReply    its reply: the line of a refusal; or a step that doesn't fit, where a part is heavy
 --   IsValueLine    the reply of a value, or of no value
 --   IsStepOf       the line of the first step of an evaluation that doesn't fit
 --   IsEvaluated    the reply of an evaluation of an expression for a parameter and a variable
-use Rattle.std.specs.Prelude.{◌≡◌, ℕ, List, [], ◌∷◌, ◌++◌, map, ℤ, pos, negsuc, ◌≤ℤ◌, false, Option, Some, None, ◌⊎◌, codes}
+use Rattle.std.specs.Prelude.{◌≡◌, ℕ, ◌+◌, List, [], ◌∷◌, ◌++◌, length, map, ℤ, pos, negsuc, ◌≤ℤ◌, false, Option, Some, None, ◌⊎◌, codes}
 use Rattle.sg_spec.specs.Tree.{Tree}
 use Rattle.sg_spec.specs.Steps.{steps, IsFirstMisfit}
 use Rattle.sg_algebra.specs.Coefficients.{Each}
 use Rattle.sg_spec.specs.Generators.{all_sums, all_prods}
 use Rattle.sg_spec.specs.Limits.{counted}
-use Rattle.sg_spec.specs.Polynomials.{IsPolynomial}
 use Rattle.sg_spec.specs.Printing.{has_parameter, InForm}
-use Rattle.sg_limits.specs.Counts.{IsFault}
+use Rattle.sg_limits.specs.Counts.{IsFault, AreFacts}
 use Rattle.sg_limits.specs.declared.fault.LimitFault.{LimitFault}
+use Rattle.sg_limits.specs.declared.inspection.Facts.{Facts}
 use Rattle.sg_num.specs.Value.{fraction}
 use Rattle.sg_num.specs.Stopped.{IsTooWide}
 use Rattle.sg_num.specs.declared.rat.Rat.{Rat}
@@ -31,9 +33,9 @@ use Rattle.sg_value.specs.Answer.{step_of}
 use Rattle.sg_words.specs.declared.asked.Command.{Command}
 use Rattle.sg_words.specs.declared.asked.Command.TheVariants.{Sum, Value, ValueAtParameter}
 use Rattle.sg_top.specs.Lines.{wide_line}
-use Rattle.sg_top.specs.Stages.{letters_of, AreRead}
-use Rattle.sg_top.specs.Refusals.{IsTextRefusal, IsCountRefusal, IsPoleRefusal, HasHeavyPart}
-use Rattle.sg_top.specs.Output.{IsValueOutput}
+use Rattle.sg_top.specs.Stages.{letters_of, AreRead, HasNoProduct}
+use Rattle.sg_top.specs.Refusals.{IsTextRefusal, IsCountRefusal, IsPoleRefusal, IsSpared, HasHeavyPart}
+use Rattle.sg_top.specs.Output.{IsValueOutput, IsNarrow}
 use Rattle.sg_top.specs.declared.status.Status.{Status}
 use Rattle.sg_top.specs.declared.status.Status.TheVariants.{Done, No, Refused, Wide}
 use Rattle.sg_top.specs.declared.taken.Taken.{Taken}
@@ -53,13 +55,34 @@ AreInForm c es = Each (InForm (has_parameter (letters_of c)) false) es
 abbrev pub IsRational : Tree → Type 0
 IsRational e = (all_sums e ≡ []) × (all_prods e ≡ [])
 
-abbrev pub IsNoPolynomial : Tree → Type 0
-IsNoPolynomial e = IsPolynomial e → ⊥
+abbrev pub Alone : (Tree → Type 0) → List Tree → Type 0
+Alone P [] = ⊥
+Alone P (e ∷ []) = P e
+Alone P (e ∷ (g ∷ es)) = ⊥
+
+pub record IsFirstLater (item : ℕ) (es : List Tree) : Type 0 where
+  pub before : List Tree
+  pub expression : Tree
+  pub after : List Tree
+  pub split : es ≡ before ++ expression ∷ after
+  pub plain : Each HasNoProduct before
+  pub product : HasNoProduct expression → ⊥
+  pub item_is : item ≡ length before + 1
 
 abbrev pub IsLimited : Command → Type 0
 IsLimited (Sum a) = (negsuc 999 ≤ℤ a) × (a ≤ℤ pos 1000)
 IsLimited (Value k) = Unit {0}
 IsLimited (ValueAtParameter n k) = Unit {0}
+
+pub record AreAdmitted (a : ℤ) (facts : Facts) (es : List Tree) : Type 0 where
+  pub form : Each (InForm false false) es
+  pub plain : Each HasNoProduct es
+  pub kept : counted es ≡ None
+  pub not_narrow : IsNarrow (Sum a) es → ⊥
+  pub low : negsuc 999 ≤ℤ a
+  pub high : a ≤ℤ pos 1000
+  pub spared : IsSpared (Sum a) es
+  pub facts_are : AreFacts facts (Some a) es
 
 pub record IsStopped (status : Status) (line : List ℕ) : Type 0 where
   pub wide : status ≡ Wide

@@ -2,9 +2,11 @@
 #![tactic(auto)]
 
 mod answer;
+mod batch;
 mod lines;
 mod poles;
 mod reply;
+mod samples;
 mod send;
 mod status;
 mod sums;

@@ -1,18 +1,18 @@
-ghost use Rattle.std.specs.Prelude.{◌≡◌, ◌↔◌, [], ◌∷◌, ◌++◌, pos, negsuc, ◌≤ℤ◌, IfOk, IsTrue, Some, None, length, map, codes, false};
+ghost use Rattle.std.specs.Prelude.{◌≡◌, ◌<◌, ◌≤◌, ◌↔◌, [], ◌∷◌, ◌++◌, pos, negsuc, ◌≤ℤ◌, IfOk, IsTrue, MatchOption, None, length, map, codes, false};
 ghost use Rattle.sg_algebra.specs.Coefficients.{Each};
 ghost use Rattle.sg_expr.specs.Tree.{tree_of};
 ghost use Rattle.sg_spec.specs.Limits.{counted};
 ghost use Rattle.sg_spec.specs.Polynomials.{IsPolynomial};
 ghost use Rattle.sg_spec.specs.Printing.{InForm};
 ghost use Rattle.sg_spec.specs.Reading.{Reads};
-ghost use Rattle.sg_limits.specs.Counts.{AreFacts};
 ghost use Rattle.sg_text.specs.PrintedText.{printed};
 ghost use Rattle.sg_words.specs.declared.asked.Command.TheVariants.{Sum};
 ghost use Rattle.sg_top.specs.Answer.{IsCountedReply, IsTakenReply};
 ghost use Rattle.sg_top.specs.Lines.{closed_line, listed, none_line};
+ghost use Rattle.sg_top.specs.Output.{IsNarrow};
 ghost use Rattle.sg_top.specs.Refusals.{IsSpared};
 ghost use Rattle.sg_top.specs.Stages.{HasNoProduct};
-ghost use Rattle.sg_top.specs.Taking.{IsRational, IsNoPolynomial};
+ghost use Rattle.sg_top.specs.Taking.{IsRational, Alone, IsFirstLater, AreAdmitted};
 ghost use Rattle.sg_top.specs.declared.status.Status.TheVariants.{Done, No};
 
 use crate::Status;
@@ -28,35 +28,39 @@ use sg_polysum::closed_form;
 use sg_text::print;
 use std::alloc::{AllocError, Global};
 
-/// The answer to the command that sums an expression from a on: polynomials are summed by themselves, other expressions only
-/// where no part of a divisor is 0. The error is out of memory.
+/// The answer to the command that sums the first expression from a on, over the sums of all of them: a polynomial alone is summed
+/// by itself, other expressions only where no part of a divisor is 0. The error is out of memory.
 pub fn sum_reply(alloc: Global, items: &Row<Expr>, a: i64) -> Result<Reply, AllocError>
-    requires one { length items.now ≡ 1 }
+    requires some { 0 < length items.now }
+    requires few { length items.now ≤ 16 }
     requires form { Each (InForm false false) (map tree_of items.now) }
     requires kept { counted (map tree_of items.now) ≡ None }
     requires low { negsuc 999 ≤ℤ a }
     requires high { a ≤ℤ pos 1000 }
     ensures { IfOk result (λ r. IsCountedReply (Sum a) (map tree_of items.now) r.status r.text.items) }
 {
+    match lone_polynomial(items) {
+        Some(f) => {
+            let reply = polynomial_reply(alloc, f, a)?;
+            Ok(reply)
+        }
+        None => {
+            let reply = tested_reply(alloc, items, a)?;
+            Ok(reply)
+        }
+    }
+}
+
+// The only expression, where it is a polynomial.
+fn lone_polynomial(items: &Row<Expr>) -> Option<&Expr>
+    ensures { MatchOption result (Alone IsPolynomial (map tree_of items.now) → ⊥)
+        (λ f. (map tree_of items.now ≡ tree_of f.now ∷ []) × IsPolynomial (tree_of f.now)) }
+{
+    if items.len() != 1 {
+        return None;
+    }
     let f = items.get(0);
-    if is_polynomial(f) {
-        let reply = polynomial_reply(alloc, f, a)?;
-        return Ok(reply);
-    }
-    if !has_no_product(f) {
-        let line = item_text(alloc, b"later", 1)?;
-        return Ok(Reply::refused(line));
-    }
-    match inspect(alloc, items, Some(a)) {
-        Ok(facts) => {
-            let reply = spared_reply(alloc, items, &facts, a)?;
-            Ok(reply)
-        }
-        Err(fault) => {
-            let reply = pole_reply(alloc, fault)?;
-            Ok(reply)
-        }
-    }
+    if is_polynomial(f) { Some(f) } else { None }
 }
 
 // Whether the expression is built from numerals, the variable, sums, products, opposites and powers alone.
@@ -71,16 +75,45 @@ fn is_polynomial(e: &Expr) -> bool
     }
 }
 
-// Whether the expression holds no sum and no product.
-fn is_rational(e: &Expr) -> bool
-    ensures { IsTrue result ↔ IsRational (tree_of e.now) }
+// The answer after the tests: that none holds a product, and that no part of a divisor is 0.
+fn tested_reply(alloc: Global, items: &Row<Expr>, a: i64) -> Result<Reply, AllocError>
+    requires some { 0 < length items.now }
+    requires few { length items.now ≤ 16 }
+    requires form { Each (InForm false false) (map tree_of items.now) }
+    requires kept { counted (map tree_of items.now) ≡ None }
+    requires not_narrow { IsNarrow (Sum a) (map tree_of items.now) → ⊥ }
+    requires low { negsuc 999 ≤ℤ a }
+    requires high { a ≤ℤ pos 1000 }
+    ensures { IfOk result (λ r. IsCountedReply (Sum a) (map tree_of items.now) r.status r.text.items) }
 {
-    match e {
-        Expr::Num(_) | Expr::Here | Expr::Param => true,
-        Expr::Add(a, b) | Expr::Mul(a, b) | Expr::Div(a, b) => is_rational(a) && is_rational(b),
-        Expr::Neg(a) | Expr::Pow(a, _) => is_rational(a),
-        Expr::Sum { .. } | Expr::Prod { .. } => false,
+    match first_later(items.as_slice()) {
+        Some(item) => {
+            let line = item_text(alloc, b"later", item)?;
+            Ok(Reply::refused(line))
+        }
+        None => match inspect(alloc, items, Some(a)) {
+            Ok(facts) => {
+                let reply = spared_reply(alloc, items, &facts, a)?;
+                Ok(reply)
+            }
+            Err(fault) => {
+                let reply = pole_reply(alloc, fault)?;
+                Ok(reply)
+            }
+        },
     }
+}
+
+// The place of the first expression that holds a product, counted from 1; None exactly where none does.
+fn first_later(items: &[Expr]) -> Option<usize>
+    ensures { MatchOption result (Each HasNoProduct (map tree_of items.now)) (λ item. IsFirstLater item (map tree_of items.now)) }
+{
+    for (i, e) in items.iter().enumerate() {
+        if !has_no_product(e) {
+            return Some(i + 1);
+        }
+    }
+    None
 }
 
 // Whether the expression holds no product.
@@ -115,26 +148,18 @@ fn polynomial_reply(alloc: Global, f: &Expr, a: i64) -> Result<Reply, AllocError
     }
 }
 
-// The answer for an expression without products that is no polynomial, no part of whose divisors is 0.
+// The answer for expressions that pass all tests: a rational function alone is summed by itself.
 fn spared_reply(
     alloc: Global,
     items: &Row<Expr>,
     facts: &Facts,
     a: i64,
 ) -> Result<Reply, AllocError>
-    requires one { length items.now ≡ 1 }
-    requires form { Each (InForm false false) (map tree_of items.now) }
-    requires plain { Each HasNoProduct (map tree_of items.now) }
-    requires fraction { Each IsNoPolynomial (map tree_of items.now) }
-    requires kept { counted (map tree_of items.now) ≡ None }
-    requires low { negsuc 999 ≤ℤ a }
-    requires high { a ≤ℤ pos 1000 }
-    requires spared { IsSpared (Sum a) (map tree_of items.now) }
-    requires facts { AreFacts facts.now (Some a) (map tree_of items.now) }
+    requires some { 0 < length items.now }
+    requires admitted { AreAdmitted a facts.now (map tree_of items.now) }
     ensures { IfOk result (λ r. IsTakenReply (Sum a) (map tree_of items.now) r.status r.text.items) }
 {
-    let f = items.get(0);
-    if is_rational(f) {
+    if let Some(f) = lone_rational(items) {
         let reply = rational_reply(alloc, f, a)?;
         return Ok(reply);
     }
@@ -142,10 +167,34 @@ fn spared_reply(
     Ok(reply)
 }
 
+// The only expression, where it holds no sum and no product.
+fn lone_rational(items: &Row<Expr>) -> Option<&Expr>
+    ensures { MatchOption result (Alone IsRational (map tree_of items.now) → ⊥)
+        (λ f. (map tree_of items.now ≡ tree_of f.now ∷ []) × IsRational (tree_of f.now)) }
+{
+    if items.len() != 1 {
+        return None;
+    }
+    let f = items.get(0);
+    if is_rational(f) { Some(f) } else { None }
+}
+
+// Whether the expression holds no sum and no product.
+fn is_rational(e: &Expr) -> bool
+    ensures { IsTrue result ↔ IsRational (tree_of e.now) }
+{
+    match e {
+        Expr::Num(_) | Expr::Here | Expr::Param => true,
+        Expr::Add(a, b) | Expr::Mul(a, b) | Expr::Div(a, b) => is_rational(a) && is_rational(b),
+        Expr::Neg(a) | Expr::Pow(a, _) => is_rational(a),
+        Expr::Sum { .. } | Expr::Prod { .. } => false,
+    }
+}
+
 // The answer for a rational function that is no polynomial, no part of whose divisors is 0.
 fn rational_reply(alloc: Global, f: &Expr, a: i64) -> Result<Reply, AllocError>
     requires rational { IsRational (tree_of f.now) }
-    requires fraction { IsPolynomial (tree_of f.now) → ⊥ }
+    requires not_narrow { IsNarrow (Sum a) (tree_of f.now ∷ []) → ⊥ }
     requires form { InForm false false (tree_of f.now) }
     requires spared { IsSpared (Sum a) (tree_of f.now ∷ []) }
     ensures { IfOk result (λ r. IsTakenReply (Sum a) (tree_of f.now ∷ []) r.status r.text.items) }
@@ -166,22 +215,15 @@ fn rational_reply(alloc: Global, f: &Expr, a: i64) -> Result<Reply, AllocError>
     }
 }
 
-// The answer for an expression that holds sums, and no products, no part of whose divisors is 0.
+// The answer for expressions that pass all tests, over the sums of all of them.
 fn nested_reply(
     alloc: Global,
     items: &Row<Expr>,
     facts: &Facts,
     a: i64,
 ) -> Result<Reply, AllocError>
-    requires one { length items.now ≡ 1 }
-    requires form { Each (InForm false false) (map tree_of items.now) }
-    requires plain { Each HasNoProduct (map tree_of items.now) }
-    requires fraction { Each IsNoPolynomial (map tree_of items.now) }
-    requires kept { counted (map tree_of items.now) ≡ None }
-    requires low { negsuc 999 ≤ℤ a }
-    requires high { a ≤ℤ pos 1000 }
-    requires spared { IsSpared (Sum a) (map tree_of items.now) }
-    requires facts { AreFacts facts.now (Some a) (map tree_of items.now) }
+    requires some { 0 < length items.now }
+    requires admitted { AreAdmitted a facts.now (map tree_of items.now) }
     ensures { IfOk result (λ r. IsTakenReply (Sum a) (map tree_of items.now) r.status r.text.items) }
 {
     match nested_closed(alloc, facts, items, a) {

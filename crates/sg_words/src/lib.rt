@@ -6,7 +6,7 @@ mod number;
 mod words;
 
 pub use asked::Command;
-pub use words::command_of;
+pub use words::{command_of, gen_of, is_batch};
 
 #[cfg(test)]
 mod tests;

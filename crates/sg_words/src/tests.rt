@@ -1,41 +1,87 @@
-use crate::{Command, command_of};
+use crate::{Command, command_of, gen_of, is_batch};
+use sg_num::Row;
 use std::alloc::{AllocError, Global};
 use std::test::Fail;
 
-fn words_of(alloc: Global, line: &str) -> Result<Vec<String>, AllocError> {
-    let mut words = Vec::new(alloc);
-    for word in line.split(' ') {
-        words.push(String::from_str(alloc, word)?)?;
+fn words_of(alloc: Global, line: &str) -> Result<Row<Row<u8>>, AllocError> {
+    let mut words = Row::new(alloc);
+    for part in line.split(' ') {
+        let mut word = Row::new(alloc);
+        for b in part.as_bytes() {
+            word.push(*b)?;
+        }
+        words.push(word)?;
     }
     Ok(words)
 }
 
 #[test]
 fn words_are_commands(rt: HostRuntime) -> Result<(), Fail> {
-    for (line, command) in [
-        ("sum 1 k", Some(Command::Sum { lower: 1 })),
-        ("sum -0007 k", Some(Command::Sum { lower: -7 })),
-        ("sum 1001 k", None),
-        ("sum +1 k", None),
-        ("sum 1 k k", None),
-        ("sum 1", None),
-        ("value 100000 k", Some(Command::Value { point: 100_000 })),
+    for (line, command, further) in [
+        ("sum 1 k", Some(Command::Sum { lower: 1 }), 0),
+        ("sum -0007 k", Some(Command::Sum { lower: -7 }), 0),
+        ("sum 1 k with g", Some(Command::Sum { lower: 1 }), 1),
+        (
+            "sum 1 k with a b c d e f g h",
+            Some(Command::Sum { lower: 1 }),
+            8,
+        ),
+        ("sum 1 with", Some(Command::Sum { lower: 1 }), 0),
+        ("sum 1 k with a b c d e f g h i", None, 0),
+        ("sum 1 k with", None, 0),
+        ("sum 1 k width g", None, 0),
+        ("sum 1001 k", None, 0),
+        ("sum +1 k", None, 0),
+        ("sum 1 k k", None, 0),
+        ("sum 1", None, 0),
+        ("value 100000 k", Some(Command::Value { point: 100_000 }), 0),
         (
             "value 3 5 k",
             Some(Command::ValueAtParameter {
                 parameter: 5,
                 point: 3,
             }),
+            0,
         ),
-        ("value 3 -5 k", None),
-        ("total 1 k", None),
+        ("value 3 -5 k", None, 0),
+        ("total 1 k", None, 0),
     ] {
         let words = words_of(rt.alloc(), line)?;
         let found = command_of(words.as_slice());
         assert_eq!(rt; found.map(|r| r.0), command, "{line}");
-        if let Some((_, texts)) = found {
-            assert_eq!(rt; texts.len(), 1, "{line}");
+        if let Some((_, first, others)) = found {
+            assert_eq!(rt;
+                first.len(),
+                if line == "sum 1 with" { 4 } else { 1 },
+                "{line}"
+            );
+            assert_eq!(rt; others.len(), further, "{line}");
         }
+    }
+    Ok(())
+}
+
+#[test]
+fn words_are_batches_and_samples(rt: HostRuntime) -> Result<(), Fail> {
+    for (line, batch, sampled) in [
+        ("batch", true, None),
+        ("batch batch", false, None),
+        ("gen 5 0", false, Some((5, 0))),
+        ("gen -0 1000", false, Some((0, 1000))),
+        (
+            "gen 18446744073709551615 1",
+            false,
+            Some((18_446_744_073_709_551_615, 1)),
+        ),
+        ("gen 18446744073709551616 1", false, None),
+        ("gen 1 1001", false, None),
+        ("gen 1 \u{e9}", false, None),
+        ("gen 1", false, None),
+    ] {
+        let words = words_of(rt.alloc(), line)?;
+        assert_eq!(rt; is_batch(words.as_slice()), batch, "{line}");
+        assert_eq!(rt; gen_of(words.as_slice()), sampled, "{line}");
+        assert!(rt; command_of(words.as_slice()).is_none(), "{line}");
     }
     Ok(())
 }

@@ -1,22 +1,23 @@
-use Rattle.std.proofs.Common.{map, string_bytes, inr, arith}
+use Rattle.std.proofs.Common.{◌∷◌, length, map, sym, subst, ◌∙◌, inr, arith}
 use Rattle.std.proofs.lemmas.List.{length-map}
 use Rattle.sg_expr.specs.Tree.{tree_of}
-use Rattle.sg_top.proofs.Replies.{read-length, read-form}
+use Rattle.sg_words.specs.Words.{HasTexts}
+use Rattle.sg_top.proofs.Texts.{read-length, read-form, few-texts}
 use Rattle.sg_top.proofs.answer.command_reply.Goals as goal
 
-pub output-requires-clause-one : goal.output-requires-clause-one
-output-requires-clause-one c =
+pub take-requires : goal.take-requires
+take-requires c = let few = few-texts c.args.command (length (c.args.first.now ∷ c.args.others.now)) c.requires.texts in omega arith
+
+pub output-requires-clause-texts : goal.output-requires-clause-texts
+output-requires-clause-texts c =
     let taken = rw c.in-Items.is at c.in_ok-text.ensures in
-    let same = read-length c.args.command (map string_bytes c.args.texts.now) (map tree_of c.in-Items.items) taken.0 in
-    let left = length-map c.in-Items.items tree_of in
-    let right = length-map c.args.texts.now string_bytes in
-    let alone = c.requires in
-    omega arith
+    let same = read-length c.args.command 1 (c.args.first.now ∷ c.args.others.now) (map tree_of c.in-Items.items) taken.0 in
+    subst (HasTexts c.args.command) (sym (sym (length-map c.in-Items.items tree_of) ∙ same)) c.requires.texts
 
 pub output-requires-clause-form : goal.output-requires-clause-form
 output-requires-clause-form c =
     let taken = rw c.in-Items.is at c.in_ok-text.ensures in
-    read-form c.args.command (map string_bytes c.args.texts.now) (map tree_of c.in-Items.items) taken.0
+    read-form c.args.command 1 (c.args.first.now ∷ c.args.others.now) (map tree_of c.in-Items.items) taken.0
 
 pub output-requires-clause-kept : goal.output-requires-clause-kept
 output-requires-clause-kept c = let taken = rw c.in-Items.is at c.in_ok-text.ensures in taken.1

@@ -1,9 +1,20 @@
-use Rattle.std.proofs.Common.{FitsSigned, rules}
+use Rattle.std.proofs.Common.{◌≡◌, FitsSigned, length, rules}
 use Rattle.std.specs.Int.{w64}
 use Rattle.std.proofs.lemmas.Int.{to_z-of_z}
 use Rattle.sg_expr.specs.Tree.{tree_of}
-use Rattle.sg_top.proofs.Replies.{lone, value-reply, parameter-reply}
+use Rattle.sg_top.proofs.Items.{lone}
+use Rattle.sg_top.proofs.Replies.{value-reply, parameter-reply}
+use Rattle.sg_top.proofs.Texts.{some-texts, few-texts}
 use Rattle.sg_top.proofs.answer.output.Goals as goal
+
+pub get-e-requires : goal.get-e-requires
+get-e-requires c = some-texts c.args.command (length c.args.items.now) c.requires.texts
+
+pub sum_reply-requires-clause-some : goal.sum_reply-requires-clause-some
+sum_reply-requires-clause-some c = some-texts c.args.command (length c.args.items.now) c.requires.texts
+
+pub sum_reply-requires-clause-few : goal.sum_reply-requires-clause-few
+sum_reply-requires-clause-few c = few-texts c.args.command (length c.args.items.now) c.requires.texts
 
 pub sum_reply-requires-clause-form : goal.sum_reply-requires-clause-form
 sum_reply-requires-clause-form c = rw c.in-Sum.is at c.requires.form
@@ -16,13 +27,15 @@ returns-in_ok-reply-in-Sum c =
 pub returns-in_ok-reply-in-Value : goal.returns-in_ok-reply-in-Value
 returns-in_ok-reply-in-Value c =
     let fits : FitsSigned w64 c.in-Value.point = search rules in
-    rw (c.in-Value.is, lone c.args.items.now c.get-e.result.now c.requires.one c.get-e.ensures)
+    let alone : length c.args.items.now ≡ 1 = rw c.in-Value.is at c.requires.texts in
+    rw (c.in-Value.is, lone c.args.items.now c.get-e.result.now alone c.get-e.ensures)
     (value-reply c.in-Value.point (tree_of c.get-e.result.now) c.in_ok-reply-in-Value.reply.status c.in_ok-reply-in-Value.reply.text.items (simp to_z-of_z at c.in_ok-reply-in-Value.ensures))
 
 pub returns-in_ok-reply-in-ValueAtParameter : goal.returns-in_ok-reply-in-ValueAtParameter
 returns-in_ok-reply-in-ValueAtParameter c =
     let fits_n : FitsSigned w64 c.in-ValueAtParameter.parameter = search rules in
     let fits_k : FitsSigned w64 c.in-ValueAtParameter.point = search rules in
-    rw (c.in-ValueAtParameter.is, lone c.args.items.now c.get-e.result.now c.requires.one c.get-e.ensures)
+    let alone : length c.args.items.now ≡ 1 = rw c.in-ValueAtParameter.is at c.requires.texts in
+    rw (c.in-ValueAtParameter.is, lone c.args.items.now c.get-e.result.now alone c.get-e.ensures)
     (parameter-reply c.in-ValueAtParameter.parameter c.in-ValueAtParameter.point (tree_of c.get-e.result.now) c.in_ok-reply-in-ValueAtParameter.reply.status
     c.in_ok-reply-in-ValueAtParameter.reply.text.items (simp to_z-of_z at c.in_ok-reply-in-ValueAtParameter.ensures))

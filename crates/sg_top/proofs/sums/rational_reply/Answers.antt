@@ -32,4 +32,4 @@ returns-in_ok-reply-in-Ok-None c =
 pub returns-in_ok-reply-in-Err : goal.returns-in_ok-reply-in-Err
 returns-in_ok-reply-in-Err c =
     wide-reply c.args.a (tree_of c.args.f.now ∷ []) c.in_ok-reply-in-Err.reply.status c.in_ok-reply-in-Err.reply.text.items (inl c.requires.spared) c.in_ok-reply-in-Err.ensures.line
-    (λ n. c.requires.fraction n.0)
+    c.requires.not_narrow

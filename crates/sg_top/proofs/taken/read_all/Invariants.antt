@@ -1,7 +1,7 @@
-use Rattle.std.proofs.Common.{map, string_bytes, take}
+use Rattle.std.proofs.Common.{◌∷◌, map, take}
 use Rattle.sg_expr.specs.Tree.{tree_of}
 use Rattle.sg_top.specs.Stages.{AreRead}
 use Rattle.sg_top.proofs.taken.read_all.Given as goal
 
 abbrev pub invariant-loop-text : goal.invariant-loop-text
-invariant-loop-text l = AreRead l.command (map string_bytes (take l.text-index l.texts)) (map tree_of l.items)
+invariant-loop-text l = AreRead l.command (l.first ∷ take l.text-index l.others) (map tree_of l.items)

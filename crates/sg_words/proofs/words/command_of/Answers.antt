@@ -1,13 +1,13 @@
-use Rattle.std.proofs.Common.{◌≡◌, ◌∙◌, rules, codes, string_bytes, sym}
+use Rattle.std.proofs.Common.{◌≡◌, ◌∙◌, rules, codes, sym}
 use Rattle.sg_words.proofs.Finding.{words-split}
 use Rattle.sg_words.proofs.words.command_of.Goals as goal
 
 pub returns-then-eq : goal.returns-then-eq
 returns-then-eq c =
-    let word : c.as_str.result.now ≡ codes "sum" = search rules in
-    rw (words-split string_bytes c.args.words.now c.word-item.result (codes "sum") c.in-len1-up.len_at_least c.word-item.is (sym c.as_str.ensures.value ∙ word)) c.sum_command.ensures
+    let word : c.as_slice.result.now ≡ codes "sum" = search rules in
+    rw (words-split c.args.words.now c.word-item.result (codes "sum") c.in-len1-up.len_at_least c.word-item.is (sym c.as_slice.ensures ∙ word)) c.sum_command.ensures
 
 pub returns-then-eq-2 : goal.returns-then-eq-2
 returns-then-eq-2 c =
-    let word : c.as_str-else-eq.result.now ≡ codes "value" = search rules in
-    rw (words-split string_bytes c.args.words.now c.word-item.result (codes "value") c.in-len1-up.len_at_least c.word-item.is (sym c.as_str-else-eq.ensures.value ∙ word)) c.value_command.ensures
+    let word : c.as_slice-else-eq.result.now ≡ codes "value" = search rules in
+    rw (words-split c.args.words.now c.word-item.result (codes "value") c.in-len1-up.len_at_least c.word-item.is (sym c.as_slice-else-eq.ensures ∙ word)) c.value_command.ensures

@@ -8,3 +8,4 @@ pub mod Replies
 pub mod Sampling
 pub mod Sending
 pub mod Texts
+pub mod Simplifying

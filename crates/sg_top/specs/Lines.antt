@@ -1,5 +1,7 @@
 -- The lines of answers.
 --   closed_line     `closed <h> from <s>`
+--   form_line       `<h> from <s>`
+--   yes_line        `yes from <s>`
 --   listed          the texts of products and sums, each after a comma and a blank
 --   none_line       `none over k, <products>, <sums>`
 --   wide_line       `wide <op> <left> <right>`
@@ -27,6 +29,12 @@ use Rattle.sg_text.specs.RationalText.{rational_text}
 
 abbrev pub closed_line : List ℕ → ℤ → List ℕ
 closed_line h start = codes "closed " ++ h ++ codes " from " ++ signed_decimal start ++ codes "\n"
+
+abbrev pub form_line : List ℕ → ℤ → List ℕ
+form_line h start = h ++ codes " from " ++ signed_decimal start ++ codes "\n"
+
+abbrev pub yes_line : ℤ → List ℕ
+yes_line start = codes "yes from " ++ signed_decimal start ++ codes "\n"
 
 abbrev pub listed : List Tree → List ℕ
 listed [] = []

@@ -1,6 +1,8 @@
 -- What an answer says of the expressions of a command's texts, once no refusal touches them.
 --   IsClosedLine      `closed <h> from <s>`: h is a canonical closed form, whose text is the one that is printed for it
 --   IsNoneLine        `none over k, <sums>`: no expression over the sums of the texts, which may stand in divisors, telescopes f, from no point on
+--   IsSimplifiedLine  `<h> from <s>`: h is the simplest form of f over its sums, and so the one that all expressions have that agree with f from some point on
+--   IsYesLine         `yes from <s>`: g telescopes f from s on; IsNoLine: `no`: beyond every point it fails somewhere
 --   IsFractionLine    the value of an expression, in lowest terms
 --   IsNoValueLine     `no value`: it has none
 --   IsDefined         the defined answer; a line a command
@@ -14,7 +16,7 @@ use Rattle.sg_spec.specs.Steps.{steps, IsFirstMisfit}
 use Rattle.sg_spec.specs.Reading.{Reads}
 use Rattle.sg_spec.specs.Limits.{degrees}
 use Rattle.sg_spec.specs.Polynomials.{IsPolynomial, weight}
-use Rattle.sg_spec.specs.Generators.{Over, sums, prods}
+use Rattle.sg_spec.specs.Generators.{Over, sums, prods, start}
 use Rattle.sg_spec.specs.Canonical.{IsCanonicalOver}
 use Rattle.sg_spec.specs.Closed.{Closed}
 use Rattle.sg_spec.specs.Telescoping.{Tele}
@@ -26,8 +28,11 @@ use Rattle.sg_text.specs.PrintedText.{printed}
 use Rattle.sg_text.specs.RationalText.{rational_text}
 use Rattle.sg_value.specs.Answer.{step_of}
 use Rattle.sg_words.specs.declared.asked.Command.{Command}
-use Rattle.sg_words.specs.declared.asked.Command.TheVariants.{Sum, Value, ValueAtParameter}
-use Rattle.sg_top.specs.Lines.{closed_line, none_line}
+use Rattle.sg_words.specs.declared.asked.Command.TheVariants.{Sum, Simplify, Check, Value, ValueAtParameter}
+use Rattle.sg_forms_theory.specs.Sums.{IsSimplest}
+use Rattle.sg_forms_theory.specs.Checks.{TelescopesFrom, FailsBeyond}
+use Rattle.sg_forms.specs.Wholes.{IsWhole}
+use Rattle.sg_top.specs.Lines.{closed_line, none_line, form_line, yes_line}
 use Rattle.sg_top.specs.declared.status.Status.{Status}
 use Rattle.sg_top.specs.declared.status.Status.TheVariants.{Done, No}
 
@@ -45,6 +50,23 @@ pub record IsNoneLine (f : Tree) (others : List Tree) (status : Status) (out : L
   pub none : (e : Tree) → Over (sums (f ∷ others)) e → ¬ Tele e f
   pub is : out ≡ none_line (prods (f ∷ others) ++ sums (f ∷ others))
 
+pub record IsSimplifiedLine (a : ℤ) (f : Tree) (status : Status) (out : List ℕ) : Type 0 where
+  pub status_is : status ≡ Done
+  pub form : Tree
+  pub simplest : IsSimplest IsWhole (start (f ∷ []) a) (sums (f ∷ [])) f form
+  pub reads_back : Reads (printed (codes "k") form) (codes "k") form
+  pub is : out ≡ form_line (printed (codes "k") form) (start (f ∷ []) a)
+
+pub record IsYesLine (a : ℤ) (f g : Tree) (status : Status) (out : List ℕ) : Type 0 where
+  pub status_is : status ≡ Done
+  pub holds : TelescopesFrom (start (f ∷ (g ∷ [])) a) g f
+  pub is : out ≡ yes_line (start (f ∷ (g ∷ [])) a)
+
+pub record IsNoLine (f g : Tree) (status : Status) (out : List ℕ) : Type 0 where
+  pub status_is : status ≡ No
+  pub fails : FailsBeyond g f
+  pub is : out ≡ codes "no\n"
+
 pub record IsFractionLine (v : Option Fraction) (status : Status) (out : List ℕ) : Type 0 where
   pub status_is : status ≡ Done
   pub number : Rat
@@ -61,12 +83,22 @@ abbrev pub IsSumOutput : ℤ → List Tree → Status → List ℕ → Type 0
 IsSumOutput a [] status out = ⊥
 IsSumOutput a (f ∷ others) status out = IsClosedLine a f others status out ⊎ IsNoneLine f others status out
 
+abbrev pub IsSimplifyOutput : ℤ → List Tree → Status → List ℕ → Type 0
+IsSimplifyOutput a (f ∷ []) status out = IsSimplifiedLine a f status out
+IsSimplifyOutput a es status out = ⊥
+
+abbrev pub IsCheckOutput : ℤ → List Tree → Status → List ℕ → Type 0
+IsCheckOutput a (f ∷ (g ∷ [])) status out = IsYesLine a f g status out ⊎ IsNoLine f g status out
+IsCheckOutput a es status out = ⊥
+
 abbrev pub IsValueOutput : ℤ → ℤ → List Tree → Status → List ℕ → Type 0
 IsValueOutput n k (e ∷ []) status out = IsFractionLine (val e n k) status out ⊎ IsNoValueLine (val e n k) status out
 IsValueOutput n k es status out = ⊥
 
 abbrev pub IsDefined : Command → List Tree → Status → List ℕ → Type 0
 IsDefined (Sum a) es status out = IsSumOutput a es status out
+IsDefined (Simplify a) es status out = IsSimplifyOutput a es status out
+IsDefined (Check a) es status out = IsCheckOutput a es status out
 IsDefined (Value k) es status out = IsValueOutput (pos 0) k es status out
 IsDefined (ValueAtParameter n k) es status out = IsValueOutput n k es status out
 

@@ -7,24 +7,28 @@
 --   IsReadAt        the text at this place reads as this tree, and it may stand there
 --   AreReadFrom     the texts from this place on read as these trees, one for one; AreRead: from the first one on
 --   HasNoProduct    without products
---   IsTaken         the command answers expressions like this one so far: `sum` those without products
+--   IsTaken         the command answers expressions like this one so far: `value` all, the others those without products
 use Rattle.std.specs.Prelude.{◌≡◌, ℕ, ◌+◌, nat_le, ℤ, Option, Some, None, List, [], ◌∷◌, codes, ◌⊎◌}
 use Rattle.sg_spec.specs.Tree.{Tree, sum_from}
 use Rattle.sg_spec.specs.Generators.{all_prods}
 use Rattle.sg_spec.specs.Reading.{Bounds, IsRead}
 use Rattle.sg_words.specs.declared.asked.Command.{Command}
-use Rattle.sg_words.specs.declared.asked.Command.TheVariants.{Sum, Value, ValueAtParameter}
+use Rattle.sg_words.specs.declared.asked.Command.TheVariants.{Sum, Simplify, Check, Value, ValueAtParameter}
 
 abbrev pub input_bounds : Bounds
 input_bounds = record { bytes = 4096; parens = 32; limits = record { numeral = λ n. nat_le n 999999999999999999; exponent = λ n. nat_le n 32 } }
 
 abbrev pub letters_of : Command → List ℕ
 letters_of (Sum a) = codes "k"
+letters_of (Simplify a) = codes "k"
+letters_of (Check a) = codes "k"
 letters_of (Value k) = codes "k"
 letters_of (ValueAtParameter n k) = codes "kn"
 
 abbrev pub lower_of : Command → Option ℤ
 lower_of (Sum a) = Some a
+lower_of (Simplify a) = Some a
+lower_of (Check a) = Some a
 lower_of (Value k) = None
 lower_of (ValueAtParameter n k) = None
 
@@ -35,6 +39,8 @@ IsSum e = ⊥
 -- what stands after `with` is a sum as a whole
 abbrev pub MayStand : Command → ℕ → Tree → Type 0
 MayStand (Sum a) item e = (item ≡ 1) ⊎ IsSum e
+MayStand (Simplify a) item e = Unit {0}
+MayStand (Check a) item e = Unit {0}
 MayStand (Value k) item e = Unit {0}
 MayStand (ValueAtParameter n k) item e = Unit {0}
 
@@ -55,5 +61,7 @@ HasNoProduct e = all_prods e ≡ []
 
 abbrev pub IsTaken : Command → Tree → Type 0
 IsTaken (Sum a) e = HasNoProduct e
+IsTaken (Simplify a) e = HasNoProduct e
+IsTaken (Check a) e = HasNoProduct e
 IsTaken (Value k) e = Unit {0}
 IsTaken (ValueAtParameter n k) e = Unit {0}

@@ -7,6 +7,8 @@
 --   IsFirstLater   the expression at this place, counted from 1, is the first that holds a product
 --   IsLimited      a lower limit is from -1,000 to 1,000
 --   AreAdmitted    expressions that pass all tests of `sum`, with these facts; they are none of those for which no step is wide
+--   AreTested      expressions without products, no part of whose divisors is 0, of which these are the facts
+--   IsTestReply    the reply where they aren't: the line of the first with a product, or what the search for poles answers
 --   IsStopped      the reply of a step that doesn't fit
 --   IsPoleCause    what the search for poles tells once the counted limits are kept
 --   IsPoleReply    its reply: the line of a refusal; or a step that doesn't fit, where a part is heavy
@@ -31,8 +33,8 @@ use Rattle.sg_text.specs.RationalText.{rational_text}
 use Rattle.sg_expr.specs.Tree.{tree_of}
 use Rattle.sg_value.specs.Answer.{step_of}
 use Rattle.sg_words.specs.declared.asked.Command.{Command}
-use Rattle.sg_words.specs.declared.asked.Command.TheVariants.{Sum, Value, ValueAtParameter}
-use Rattle.sg_top.specs.Lines.{wide_line}
+use Rattle.sg_words.specs.declared.asked.Command.TheVariants.{Sum, Simplify, Check, Value, ValueAtParameter}
+use Rattle.sg_top.specs.Lines.{wide_line, item_line}
 use Rattle.sg_top.specs.Stages.{letters_of, AreRead, HasNoProduct}
 use Rattle.sg_top.specs.Refusals.{IsTextRefusal, IsCountRefusal, IsPoleRefusal, IsSpared, HasHeavyPart}
 use Rattle.sg_top.specs.Output.{IsValueOutput, IsNarrow}
@@ -71,6 +73,8 @@ pub record IsFirstLater (item : ℕ) (es : List Tree) : Type 0 where
 
 abbrev pub IsLimited : Command → Type 0
 IsLimited (Sum a) = (negsuc 999 ≤ℤ a) × (a ≤ℤ pos 1000)
+IsLimited (Simplify a) = (negsuc 999 ≤ℤ a) × (a ≤ℤ pos 1000)
+IsLimited (Check a) = (negsuc 999 ≤ℤ a) × (a ≤ℤ pos 1000)
 IsLimited (Value k) = Unit {0}
 IsLimited (ValueAtParameter n k) = Unit {0}
 
@@ -81,6 +85,11 @@ pub record AreAdmitted (a : ℤ) (facts : Facts) (es : List Tree) : Type 0 where
   pub not_narrow : IsNarrow (Sum a) es → ⊥
   pub low : negsuc 999 ≤ℤ a
   pub high : a ≤ℤ pos 1000
+  pub spared : IsSpared (Sum a) es
+  pub facts_are : AreFacts facts (Some a) es
+
+pub record AreTested (a : ℤ) (facts : Facts) (es : List Tree) : Type 0 where
+  pub plain : Each HasNoProduct es
   pub spared : IsSpared (Sum a) es
   pub facts_are : AreFacts facts (Some a) es
 
@@ -95,6 +104,10 @@ IsPoleCause fault a es = (counted es ≡ None) × IsFault fault (Some a) es
 
 abbrev pub IsPoleReply : ℤ → List Tree → Status → List ℕ → Type 0
 IsPoleReply a es status line = ((status ≡ Refused) × IsPoleRefusal (Sum a) es line) ⊎ (IsStopped status line × HasHeavyPart (Sum a) es)
+
+abbrev pub IsTestReply : ℤ → List Tree → Status → List ℕ → Type 0
+IsTestReply a es status line =
+    ((status ≡ Refused) × ((item : ℕ) × IsFirstLater item es × (line ≡ item_line (codes "later") item))) ⊎ (Each HasNoProduct es × IsPoleReply a es status line)
 
 abbrev pub IsValueLine : Option Rat → Status → List ℕ → Type 0
 IsValueLine (Some r) status line = (status ≡ Done) × (line ≡ rational_text (fraction r) ++ codes "\n")

@@ -6,6 +6,7 @@ ghost use Rattle.sg_top.specs.Answer.{IsReply, IsCountedReply, IsLineAnswer, Inp
 ghost use Rattle.sg_top.specs.Taking.{AreInForm, IsLimited};
 
 use crate::Status;
+use crate::forms::{check_reply, simplify_reply};
 use crate::reply::Reply;
 use crate::samples::gen_reply;
 use crate::sums::sum_reply;
@@ -82,6 +83,14 @@ pub fn output(alloc: Global, command: Command, items: &Row<Expr>) -> Result<Repl
     match command {
         Command::Sum { lower } => {
             let reply = sum_reply(alloc, items, lower)?;
+            Ok(reply)
+        }
+        Command::Simplify { lower } => {
+            let reply = simplify_reply(alloc, items, lower)?;
+            Ok(reply)
+        }
+        Command::Check { lower } => {
+            let reply = check_reply(alloc, items, lower)?;
             Ok(reply)
         }
         Command::Value { point } => {

@@ -3,6 +3,7 @@
 
 mod answer;
 mod batch;
+mod forms;
 mod lines;
 mod poles;
 mod reply;

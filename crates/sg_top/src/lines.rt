@@ -4,7 +4,7 @@ ghost use Rattle.sg_spec.specs.Reading.{Refusal};
 ghost use Rattle.sg_num.specs.Value.{fraction};
 ghost use Rattle.sg_text.specs.RationalText.{rational_text};
 ghost use Rattle.sg_text.specs.Reads.{refusal_of};
-ghost use Rattle.sg_top.specs.Lines.{closed_line, wide_line, op_word, placed, item_line, refusal_words};
+ghost use Rattle.sg_top.specs.Lines.{closed_line, form_line, yes_line, wide_line, op_word, placed, item_line, refusal_words};
 
 use itoa::Buffer;
 use sg_num::{Op, Rat, Wide};
@@ -19,6 +19,29 @@ pub fn closed_text(alloc: Global, form: &[u8], start: i64) -> Result<Vec<u8>, Al
     let mut text = Vec::from_slice(alloc, b"closed ")?;
     text.extend_from_slice(form)?;
     text.extend_from_slice(b" from ")?;
+    text.extend_from_slice(buffer.format(start).as_bytes())?;
+    text.extend_from_slice(b"\n")?;
+    Ok(text)
+}
+
+/// `<form> from <start>`.
+pub fn form_text(alloc: Global, form: &[u8], start: i64) -> Result<Vec<u8>, AllocError>
+    ensures { IfOk result (λ t. t.items ≡ form_line form.now start) }
+{
+    let mut buffer = Buffer::new();
+    let mut text = Vec::from_slice(alloc, form)?;
+    text.extend_from_slice(b" from ")?;
+    text.extend_from_slice(buffer.format(start).as_bytes())?;
+    text.extend_from_slice(b"\n")?;
+    Ok(text)
+}
+
+/// `yes from <start>`.
+pub fn yes_text(alloc: Global, start: i64) -> Result<Vec<u8>, AllocError>
+    ensures { IfOk result (λ t. t.items ≡ yes_line start) }
+{
+    let mut buffer = Buffer::new();
+    let mut text = Vec::from_slice(alloc, b"yes from ")?;
     text.extend_from_slice(buffer.format(start).as_bytes())?;
     text.extend_from_slice(b"\n")?;
     Ok(text)

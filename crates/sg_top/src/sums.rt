@@ -104,8 +104,8 @@ fn tested_reply(alloc: Global, items: &Row<Expr>, a: i64) -> Result<Reply, Alloc
     }
 }
 
-// The place of the first expression that holds a product, counted from 1; None exactly where none does.
-fn first_later(items: &[Expr]) -> Option<usize>
+/// The place of the first expression that holds a product, counted from 1; None exactly where none does.
+pub fn first_later(items: &[Expr]) -> Option<usize>
     ensures { MatchOption result (Each HasNoProduct (map tree_of items.now)) (λ item. IsFirstLater item (map tree_of items.now)) }
 {
     for (i, e) in items.iter().enumerate() {

@@ -15,7 +15,7 @@
 use Rattle.std.specs.Prelude.{◌≡◌, ◌≢◌, ℕ, ◌≤◌, ◌≤ℤ◌, List, [], ◌∷◌, length, ℤ, pos, negsuc, codes, slice_index}
 use Rattle.std.specs.Str.Parse.{IsNumeral, without_leading_sign, signed_digits_value}
 use Rattle.sg_words.specs.declared.asked.Command.{Command}
-use Rattle.sg_words.specs.declared.asked.Command.TheVariants.{Sum, Value, ValueAtParameter}
+use Rattle.sg_words.specs.declared.asked.Command.TheVariants.{Sum, Simplify, Check, Value, ValueAtParameter}
 
 -- a plus is no sign of a number word
 pub record IsNumberWord (low high : ℤ) (word : List ℕ) (z : ℤ) : Type 0 where
@@ -70,12 +70,16 @@ with_further (f ∷ gs) = f ∷ after_with gs
 -- a line a command; at most eight texts stand after `with`
 abbrev pub HasTexts : Command → ℕ → Type 0
 HasTexts (Sum a) n = (1 ≤ n) × (n ≤ 9)
+HasTexts (Simplify a) n = n ≡ 1
+HasTexts (Check a) n = n ≡ 2
 HasTexts (Value k) n = n ≡ 1
 HasTexts (ValueAtParameter m k) n = n ≡ 1
 
 -- a line a command
 abbrev pub IsCommand : List (List ℕ) → Command → List (List ℕ) → Type 0
 IsCommand words (Sum a) texts = Says (codes "sum") (limit a ∷ []) (with_further texts) words × HasTexts (Sum a) (length texts)
+IsCommand words (Simplify a) texts = Says (codes "simplify") (limit a ∷ []) texts words × HasTexts (Simplify a) (length texts)
+IsCommand words (Check a) texts = Says (codes "check") (limit a ∷ []) texts words × HasTexts (Check a) (length texts)
 IsCommand words (Value k) texts = Says (codes "value") (point k ∷ []) texts words × HasTexts (Value k) (length texts)
 IsCommand words (ValueAtParameter n k) texts =
     Says (codes "value") (point k ∷ (parameter n ∷ [])) texts words × HasTexts (ValueAtParameter n k) (length texts)

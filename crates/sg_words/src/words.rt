@@ -17,6 +17,10 @@ pub fn command_of(words: &[Row<u8>]) -> Option<(Command, &Row<u8>, &[Row<u8>])>
         [word, rest @ ..] => {
             if word.as_slice() == b"sum".as_slice() {
                 sum_command(rest)
+            } else if word.as_slice() == b"simplify".as_slice() {
+                simplify_command(rest)
+            } else if word.as_slice() == b"check".as_slice() {
+                check_command(rest)
             } else if word.as_slice() == b"value".as_slice() {
                 value_command(rest)
             } else {
@@ -69,6 +73,28 @@ fn further_texts(words: &[Row<u8>]) -> Option<&[Row<u8>]>
         return None;
     }
     Some(&words[1..])
+}
+
+// `simplify`, and then these words.
+fn simplify_command(rest: &[Row<u8>]) -> Option<(Command, &Row<u8>, &[Row<u8>])>
+    ensures { MatchOption result (IsNoCommand (codes "simplify" ∷ rest.now)) (λ r. IsCommand (codes "simplify" ∷ rest.now) r.0 (r.1.now ∷ r.2.now)) }
+{
+    if rest.len() != 2 {
+        return None;
+    }
+    let lower = number_of(rest[0].as_slice(), -1000, 1000)?;
+    Some((Command::Simplify { lower }, &rest[1], &rest[2..]))
+}
+
+// `check`, and then these words.
+fn check_command(rest: &[Row<u8>]) -> Option<(Command, &Row<u8>, &[Row<u8>])>
+    ensures { MatchOption result (IsNoCommand (codes "check" ∷ rest.now)) (λ r. IsCommand (codes "check" ∷ rest.now) r.0 (r.1.now ∷ r.2.now)) }
+{
+    if rest.len() != 3 {
+        return None;
+    }
+    let lower = number_of(rest[0].as_slice(), -1000, 1000)?;
+    Some((Command::Check { lower }, &rest[1], &rest[2..]))
 }
 
 // `value`, and then these words.

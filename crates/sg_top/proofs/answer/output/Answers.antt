@@ -24,6 +24,28 @@ returns-in_ok-reply-in-Sum c =
     let fits : FitsSigned w64 c.in-Sum.lower = search rules in
     rw c.in-Sum.is (simp to_z-of_z at c.in_ok-reply-in-Sum.ensures)
 
+pub simplify_reply-requires-clause-one : goal.simplify_reply-requires-clause-one
+simplify_reply-requires-clause-one c = rw c.in-Simplify.is at c.requires.texts
+
+pub simplify_reply-requires-clause-form : goal.simplify_reply-requires-clause-form
+simplify_reply-requires-clause-form c = rw c.in-Simplify.is at c.requires.form
+
+pub returns-in_ok-reply-in-Simplify : goal.returns-in_ok-reply-in-Simplify
+returns-in_ok-reply-in-Simplify c =
+    let fits : FitsSigned w64 c.in-Simplify.lower = search rules in
+    rw c.in-Simplify.is (simp to_z-of_z at c.in_ok-reply-in-Simplify.ensures)
+
+pub check_reply-requires-clause-two : goal.check_reply-requires-clause-two
+check_reply-requires-clause-two c = rw c.in-Check.is at c.requires.texts
+
+pub check_reply-requires-clause-form : goal.check_reply-requires-clause-form
+check_reply-requires-clause-form c = rw c.in-Check.is at c.requires.form
+
+pub returns-in_ok-reply-in-Check : goal.returns-in_ok-reply-in-Check
+returns-in_ok-reply-in-Check c =
+    let fits : FitsSigned w64 c.in-Check.lower = search rules in
+    rw c.in-Check.is (simp to_z-of_z at c.in_ok-reply-in-Check.ensures)
+
 pub returns-in_ok-reply-in-Value : goal.returns-in_ok-reply-in-Value
 returns-in_ok-reply-in-Value c =
     let fits : FitsSigned w64 c.in-Value.point = search rules in

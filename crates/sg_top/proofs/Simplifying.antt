@@ -2,21 +2,21 @@
 --   test-simplified, test-checked      to expressions that don't pass the tests
 --   simplified-line, simplified-wide   to one that does; taken-simplified
 --   yes-line, no-line, checked-wide    to two that do; taken-checked
-use Rattle.std.proofs.Common.{◌≡◌, ℕ, ◌+◌, ℤ, List, [], ◌∷◌, length, map, codes, refl, sym, ap, subst, ◌∙◌, ◌⊎◌, inl, inr, arith}
+use Rattle.std.proofs.Common.{◌≡◌, ℕ, ℤ, List, [], ◌∷◌, length, codes, ap, ◌∙◌, ◌⊎◌, inl, inr, arith}
 use Rattle.sg_algebra.specs.Coefficients.{Each}
 use Rattle.sg_spec.specs.Generators.{start}
 use Rattle.sg_spec.specs.Reading.{Reads}
 use Rattle.sg_spec.specs.Tree.{Tree}
 use Rattle.sg_text.specs.PrintedText.{printed}
-use Rattle.sg_words.specs.declared.asked.Command.TheVariants.{Sum, Simplify, Check}
+use Rattle.sg_words.specs.declared.asked.Command.TheVariants.{Simplify, Check}
 use Rattle.sg_forms.specs.Commands.{IsFirstSimplified, FirstTelescopes, FirstFails}
 use Rattle.sg_top.specs.Lines.{item_line, form_line, yes_line}
 use Rattle.sg_top.specs.Stages.{HasNoProduct, IsTaken}
 use Rattle.sg_top.specs.Refusals.{IsSpared, HasHeavyPart}
 use Rattle.sg_top.specs.Answer.{IsCountedReply, IsTakenReply}
-use Rattle.sg_top.specs.Taking.{IsStopped, IsPoleReply, IsTestReply, IsFirstLater}
+use Rattle.sg_top.specs.Taking.{IsStopped, IsTestReply}
 use Rattle.sg_top.specs.declared.status.Status.{Status}
-use Rattle.sg_top.specs.declared.status.Status.TheVariants.{Done, No, Refused}
+use Rattle.sg_top.specs.declared.status.Status.TheVariants.{Done, No}
 use Rattle.sg_top.proofs.Items.{all-of}
 
 -- ---- Simplest forms
@@ -29,15 +29,18 @@ simplified-wide a es status line spared s = inr (inl (s.wide, record { step = s.
 
 pub test-simplified : (a : ℤ) (es : List Tree) (status : Status) (line : List ℕ) → IsTestReply a es status line → IsCountedReply (Simplify a) es status line
 test-simplified a es status line (inl (refused, (item, l, is))) =
-    inl (refused, record {
-      before = l.before;
-      expression = l.expression;
-      after = l.after;
-      split = l.split;
-      taken = all-of (IsTaken (Simplify a)) l.before l.plain;
-      not_taken = l.product;
-      is = is ∙ ap (item_line (codes "later")) l.item_is;
-    })
+    inl (
+      refused,
+      record {
+        before = l.before;
+        expression = l.expression;
+        after = l.after;
+        split = l.split;
+        taken = all-of (IsTaken (Simplify a)) l.before l.plain;
+        not_taken = l.product;
+        is = is ∙ ap (item_line (codes "later")) l.item_is;
+      },
+    )
 test-simplified a es status line (inr (h, inl (refused, p))) = taken-simplified a es status line h (inl (refused, record { fault = p.fault; cause = p.cause; is = p.is }))
 test-simplified a es status line (inr (h, inr (s, heavy))) = taken-simplified a es status line h (simplified-wide a es status line (inr heavy) s)
 
@@ -58,15 +61,18 @@ checked-wide a es status line spared s = inr (inl (s.wide, record { step = s.ste
 
 pub test-checked : (a : ℤ) (es : List Tree) (status : Status) (line : List ℕ) → IsTestReply a es status line → IsCountedReply (Check a) es status line
 test-checked a es status line (inl (refused, (item, l, is))) =
-    inl (refused, record {
-      before = l.before;
-      expression = l.expression;
-      after = l.after;
-      split = l.split;
-      taken = all-of (IsTaken (Check a)) l.before l.plain;
-      not_taken = l.product;
-      is = is ∙ ap (item_line (codes "later")) l.item_is;
-    })
+    inl (
+      refused,
+      record {
+        before = l.before;
+        expression = l.expression;
+        after = l.after;
+        split = l.split;
+        taken = all-of (IsTaken (Check a)) l.before l.plain;
+        not_taken = l.product;
+        is = is ∙ ap (item_line (codes "later")) l.item_is;
+      },
+    )
 test-checked a es status line (inr (h, inl (refused, p))) = taken-checked a es status line h (inl (refused, record { fault = p.fault; cause = p.cause; is = p.is }))
 test-checked a es status line (inr (h, inr (s, heavy))) = taken-checked a es status line h (checked-wide a es status line (inr heavy) s)
 

@@ -120,6 +120,23 @@ fn answers_the_known_rows(rt: HostRuntime) -> Result<(), Fail> {
             "refused later item 2\n",
             Status::Refused,
         ),
+        (
+            "simplify 1 (H(k)+1)^2",
+            "H(k)^2+2*H(k)+1 from 1\n",
+            Status::Done,
+        ),
+        (
+            "simplify 1 sum(j,1,k,j)",
+            "(k^2+k)/2 from 1\n",
+            Status::Done,
+        ),
+        ("check 1 H(k) k*H(k)-k", "yes from 1\n", Status::Done),
+        ("check 1 H(k) k*H(k)", "no\n", Status::No),
+        (
+            "check 1 k fact(k)",
+            "refused later item 2\n",
+            Status::Refused,
+        ),
         ("sum 1 k with", "usage\n", Status::Usage),
         ("sum 0 fact(k)", "refused later item 1\n", Status::Refused),
         ("sum 1 k+", "refused syntax at 2 item 1\n", Status::Refused),

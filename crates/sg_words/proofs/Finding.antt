@@ -7,9 +7,9 @@
 --   natural-same             a number that isn't below 0
 --   one-word                 the only word
 --   gen-words                three words that are `gen`, a seed and a count; no-seed, no-count, gen-three, gen-first: what else they are
-use Rattle.std.specs.Prelude.{◌≡◌, ℕ, zero, suc, ◌+◌, ◌-◌, ◌≤◌, ◌<◌, ◌==◌, ◌⊎◌, cond, nat_lt, true, false, Bool, IsTrue, List, [], ◌∷◌, length, take, drop, ℤ, pos, negsuc, ◌≤ℤ◌, unsigned_abs, codes, slice_index}
+use Rattle.std.specs.Prelude.{◌≡◌, ℕ, zero, suc, ◌-◌, ◌≤◌, ◌<◌, ◌==◌, ◌⊎◌, cond, nat_lt, true, false, Bool, IsTrue, List, [], ◌∷◌, length, take, drop, ℤ, pos, negsuc, ◌≤ℤ◌, unsigned_abs, codes, slice_index}
 use Rattle.std.specs.Str.{IsAscii, IsUtf8}
-use Rattle.std.specs.Str.Parse.{AllDigits, IsNumeral, without_leading_sign}
+use Rattle.std.specs.Str.Parse.{AllDigits}
 use Rattle.std.proofs.Common.{refl, arith, get_or, sym, ap, ◌∙◌, subst, inl, inr}
 use Rattle.std.proofs.Math.Seq.{take-length}
 use Rattle.std.proofs.lemmas.Bool.Decides.{nat_tests}

@@ -1,4 +1,4 @@
-use Rattle.std.proofs.Common.{FitsSigned, rules, arith, ℤ, pos, ◌≤ℤ◌, ◌≡◌, subst, sym}
+use Rattle.std.proofs.Common.{FitsSigned, rules, arith, ℤ, pos, ◌≤ℤ◌, subst, sym}
 use Rattle.std.specs.Int.{w128}
 use Rattle.std.proofs.lemmas.Int.{to_z-of_z, ints}
 use Rattle.sg_words.specs.Words.{IsNumberWord}

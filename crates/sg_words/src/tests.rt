@@ -15,48 +15,52 @@ fn words_of(alloc: Global, line: &str) -> Result<Row<Row<u8>>, AllocError> {
     Ok(words)
 }
 
+// The command, the length of its first text, and the number of further ones.
+fn found(alloc: Global, line: &str) -> Result<Option<(Command, usize, usize)>, AllocError> {
+    let words = words_of(alloc, line)?;
+    match command_of(words.as_slice()) {
+        Some((command, first, further)) => Ok(Some((command, first.len(), further.len()))),
+        None => Ok(None),
+    }
+}
+
 #[test]
 fn words_are_commands(rt: HostRuntime) -> Result<(), Fail> {
-    for (line, command, further) in [
-        ("sum 1 k", Some(Command::Sum { lower: 1 }), 0),
-        ("sum -0007 k", Some(Command::Sum { lower: -7 }), 0),
-        ("sum 1 k with g", Some(Command::Sum { lower: 1 }), 1),
+    for (line, want) in [
+        ("sum 1 k", Some((Command::Sum { lower: 1 }, 1, 0))),
+        ("sum -0007 k", Some((Command::Sum { lower: -7 }, 1, 0))),
+        ("sum 1 k with g", Some((Command::Sum { lower: 1 }, 1, 1))),
         (
             "sum 1 k with a b c d e f g h",
-            Some(Command::Sum { lower: 1 }),
-            8,
+            Some((Command::Sum { lower: 1 }, 1, 8)),
         ),
-        ("sum 1 with", Some(Command::Sum { lower: 1 }), 0),
-        ("sum 1 k with a b c d e f g h i", None, 0),
-        ("sum 1 k with", None, 0),
-        ("sum 1 k width g", None, 0),
-        ("sum 1001 k", None, 0),
-        ("sum +1 k", None, 0),
-        ("sum 1 k k", None, 0),
-        ("sum 1", None, 0),
-        ("value 100000 k", Some(Command::Value { point: 100_000 }), 0),
+        ("sum 1 with", Some((Command::Sum { lower: 1 }, 4, 0))),
+        ("sum 1 k with a b c d e f g h i", None),
+        ("sum 1 k with", None),
+        ("sum 1 k width g", None),
+        ("sum 1001 k", None),
+        ("sum +1 k", None),
+        ("sum 1 k k", None),
+        ("sum 1", None),
+        (
+            "value 100000 k",
+            Some((Command::Value { point: 100_000 }, 1, 0)),
+        ),
         (
             "value 3 5 k",
-            Some(Command::ValueAtParameter {
-                parameter: 5,
-                point: 3,
-            }),
-            0,
+            Some((
+                Command::ValueAtParameter {
+                    parameter: 5,
+                    point: 3,
+                },
+                1,
+                0,
+            )),
         ),
-        ("value 3 -5 k", None, 0),
-        ("total 1 k", None, 0),
+        ("value 3 -5 k", None),
+        ("total 1 k", None),
     ] {
-        let words = words_of(rt.alloc(), line)?;
-        let found = command_of(words.as_slice());
-        assert_eq!(rt; found.map(|r| r.0), command, "{line}");
-        if let Some((_, first, others)) = found {
-            assert_eq!(rt;
-                first.len(),
-                if line == "sum 1 with" { 4 } else { 1 },
-                "{line}"
-            );
-            assert_eq!(rt; others.len(), further, "{line}");
-        }
+        assert_eq!(rt; found(rt.alloc(), line)?, want, "{line}");
     }
     Ok(())
 }

@@ -15,66 +15,59 @@ fn words_of(alloc: Global, line: &str) -> Result<Row<Row<u8>>, AllocError> {
     Ok(words)
 }
 
-#[test]
-fn words_are_sums(rt: HostRuntime) -> Result<(), Fail> {
-    for (line, further) in [
-        ("sum -7 k", 0),
-        ("sum -0007 k", 0),
-        ("sum -7 k with g", 1),
-        ("sum -7 k with a b c d e f g h", 8),
-    ] {
-        let words = words_of(rt.alloc(), line)?;
-        if let Some((command, first, others)) = command_of(words.as_slice()) {
-            assert_eq!(rt; command, Command::Sum { lower: -7 });
-            assert_eq!(rt; first.len(), 1);
-            assert_eq!(rt; others.len(), further);
-        } else {
-            assert!(rt; false, "{line}");
-        }
+// The command, the length of its first text, and the number of further ones.
+fn found(alloc: Global, line: &str) -> Result<Option<(Command, usize, usize)>, AllocError> {
+    let words = words_of(alloc, line)?;
+    match command_of(words.as_slice()) {
+        Some((command, first, further)) => Ok(Some((command, first.len(), further.len()))),
+        None => Ok(None),
     }
-    Ok(())
 }
 
 #[test]
-fn words_are_other_commands(rt: HostRuntime) -> Result<(), Fail> {
-    for (line, command) in [
-        ("sum 1 with", Some(Command::Sum { lower: 1 })),
-        ("simplify -1000 k", Some(Command::Simplify { lower: -1000 })),
-        ("check 1 f g", Some(Command::Check { lower: 1 })),
-        ("value 100000 k", Some(Command::Value { point: 100_000 })),
+fn words_are_commands(rt: HostRuntime) -> Result<(), Fail> {
+    for (line, want) in [
+        ("sum 1 k", Some((Command::Sum { lower: 1 }, 1, 0))),
+        ("sum -0007 k", Some((Command::Sum { lower: -7 }, 1, 0))),
+        ("sum 1 k with g", Some((Command::Sum { lower: 1 }, 1, 1))),
+        (
+            "sum 1 k with a b c d e f g h",
+            Some((Command::Sum { lower: 1 }, 1, 8)),
+        ),
+        ("sum 1 with", Some((Command::Sum { lower: 1 }, 4, 0))),
+        ("sum 1 k with a b c d e f g h i", None),
+        ("sum 1 k with", None),
+        ("sum 1 k width g", None),
+        ("sum 1001 k", None),
+        ("sum +1 k", None),
+        ("sum 1 k k", None),
+        ("sum 1", None),
+        (
+            "value 100000 k",
+            Some((Command::Value { point: 100_000 }, 1, 0)),
+        ),
         (
             "value 3 5 k",
-            Some(Command::ValueAtParameter {
-                parameter: 5,
-                point: 3,
-            }),
+            Some((
+                Command::ValueAtParameter {
+                    parameter: 5,
+                    point: 3,
+                },
+                1,
+                0,
+            )),
         ),
+        (
+            "simplify -1000 k",
+            Some((Command::Simplify { lower: -1000 }, 1, 0)),
+        ),
+        ("simplify 1 k k", None),
+        ("check 1 f g", Some((Command::Check { lower: 1 }, 1, 1))),
+        ("check 1 f", None),
+        ("value 3 -5 k", None),
+        ("total 1 k", None),
     ] {
-        let words = words_of(rt.alloc(), line)?;
-        let found = command_of(words.as_slice());
-        assert_eq!(rt; found.map(|r| r.0), command, "{line}");
-    }
-    Ok(())
-}
-
-#[test]
-fn words_are_no_commands(rt: HostRuntime) -> Result<(), Fail> {
-    for line in [
-        "sum 1001 k",
-        "sum +1 k",
-        "sum 1 k k",
-        "sum 1",
-        "sum 1 k with",
-        "sum 1 k width g",
-        "sum 1 k with a b c d e f g h i",
-        "simplify 1 k k",
-        "check 1 f",
-        "check 1001 f g",
-        "value 3 -5 k",
-        "total 1 k",
-    ] {
-        let words = words_of(rt.alloc(), line)?;
-        assert!(rt; command_of(words.as_slice()).is_none(), "{line}");
+        assert_eq!(rt; found(rt.alloc(), line)?, want, "{line}");
     }
     Ok(())
 }

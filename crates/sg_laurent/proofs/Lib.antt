@@ -1,0 +1,5 @@
+pub mod Comparing
+pub mod Listing
+pub mod Gathering
+pub mod Adding
+pub mod Coefficients

@@ -3,17 +3,20 @@
 --   not_longer          without zeros at its end a constant has one coefficient at most
 --   parts_of_constant   a fraction in lowest terms that is a constant is this constant over 1
 --   constant_reduced    a constant over 1 is reduced
+--   constant_apart      a constant other than 0 is coprime to everything
 --   constant-zero, constant-one, constant-rational    what the constants 0, 1 and a fraction stand for
-use Rattle.std.proofs.Common.{◌≡◌, ℕ, zero, suc, ◌<◌, ◌≤◌, refl, sym, ◌∙◌, ap, ap₂, List, [], ◌∷◌, length, ℤ, arith}
+use Rattle.std.proofs.Common.{◌≡◌, ℕ, zero, suc, ◌<◌, ◌≤◌, refl, sym, ◌∙◌, ap, ap₂, List, [], ◌∷◌, map, length, ℤ, arith}
 use Rattle.sg_algebra.proofs.Ring.{nat}
-use Rattle.sg_algebra.proofs.Coprime.{coprime_one}
+use Rattle.sg_algebra.proofs.Coprime.{Coprime, coprime_one}
 use Rattle.sg_algebra.proofs.Value.{Value, over_value, zero_value, one_value, ◌/ᵛ◌}
 use Rattle.sg_algebra.proofs.ValueField.{ValueR, value_quotient, value_product, value_one_ne}
 use Rattle.sg_algebra.proofs.OverValue.{over_value-self}
 use Rattle.sg_algebra.proofs.Embedding.{constant_value, constant_valueH, constant_value-nat, constant_value-whole, numeral_ne}
 use Rattle.sg_algebra.proofs.Rational.{whole_value, rational_value}
-use Rattle.sg_algebra.proofs.Polynomial.{Polynomial, PolynomialR, poly, poly_cong, poly_same, same_poly, coefficient, EndsNonzero, zero_polynomial, one_polynomial, polynomial_one_ne}
+use Rattle.sg_algebra.proofs.Polynomial.{Polynomial, PolynomialR, poly, poly_cong, poly_same, same_poly, coefficient, EndsNonzero, zero_polynomial, one_polynomial, polynomial_one_ne, ◌+ᵖ◌, ◌*ᵖ◌}
+use Rattle.sg_algebra.proofs.Solver.{ring, reads}
 use Rattle.sg_poly.specs.Divisors.{IsMonic}
+use Rattle.sg_poly.proofs.Taken.{coprime_rest}
 use Rattle.sg_ratfun.specs.Reduced.{IsReduced}
 use Rattle.sg_ratfun.proofs.Monics.{monic_cong}
 use Rattle.sg_poly.proofs.Dividers.{monic_some}
@@ -27,6 +30,24 @@ module _ {d : ℕ} where
       past : (i : ℕ) → 0 < i → coefficient (one_value {d = d} ∷ []) i ≡ zero_value
       past zero l = absurd (omega arith)
       past (suc i) l = refl
+
+  pub monic_one : (m : List (Value d)) → poly m ≡ one_polynomial → IsMonic m
+  monic_one m e = monic_cong (one_value ∷ []) m (sym e) one_monic
+
+  pub times_one : (p l c : Polynomial d) → l ≡ p → c ≡ one_polynomial → p ≡ l *ᵖ c
+  times_one p l c h e = rw (h, e) (ring (PolynomialR d) (p ∷ []) (search reads depth 12) refl)
+
+  zero_more : (p q : Polynomial d) → q ≡ zero_polynomial *ᵖ p +ᵖ q
+  zero_more p q = ring (PolynomialR d) (p ∷ q ∷ []) (search reads depth 12) refl
+
+  -- what has one coefficient at most and isn't 0 is coprime to everything
+  pub constant_apart : {K : Type 0} (v : K → Value d) (p : Polynomial d) (r : List K) → length r ≤ 1 → ¬ (poly (map v r) ≡ zero_polynomial) → Coprime (PolynomialR d) p (poly (map v r))
+  constant_apart v p r s n = coprime_rest v p (poly (map v r)) zero_polynomial r s n (zero_more p (poly (map v r)))
+
+  pub one_left : {K : Type 0} (v : K → Value d) (p : List K) → length p ≡ 1 → EndsNonzero (map v p) → ¬ (poly (map v p) ≡ zero_polynomial)
+  one_left v [] l e = absurd (omega (arith, l))
+  one_left v (x ∷ []) l e = λ z. e 0 refl (same_poly (v x ∷ []) [] z 0)
+  one_left v (x ∷ y ∷ p) l e = absurd (omega (arith, l))
 
   pub constant_reduced : (n m : List (Value d)) → poly m ≡ one_polynomial → IsReduced n m
   constant_reduced n m e = record { coprime = rw e (coprime_one (PolynomialR d) (poly n)); monic = monic_cong (one_value ∷ []) m (sym e) one_monic }

@@ -18,7 +18,7 @@ pub(crate) struct Cofactors<F: Field> {
     pub(crate) common: Poly<F>,
 }
 
-// The two polynomials, the second of which isn't 0, over their greatest common divisor.
+// The two polynomials, the second of which isn't 0, over their greatest common divisor; a constant other than 0 has none with any.
 pub(crate) fn split<F: Field>(alloc: Global, p: &Poly<F>, q: &Poly<F>) -> Result<Cofactors<F>, Stop>
     requires { ¬ (polynomial F.val q.now ≡ zero_polynomial) }
     ensures left { IfOk result (λ s. polynomial F.val p.now ≡ polynomial F.val s.left *ᵖ polynomial F.val s.common) }
@@ -27,9 +27,36 @@ pub(crate) fn split<F: Field>(alloc: Global, p: &Poly<F>, q: &Poly<F>) -> Result
     ensures monic { IfOk result (λ s. IsMonic (map F.val s.common)) }
     ensures wide { IfErr result KeepsWideStep }
 {
+    if p.coeffs().len() == 1 {
+        let whole = apart(alloc, p, q)?;
+        return Ok(whole);
+    }
+    if q.coeffs().len() < 2 {
+        let whole = apart(alloc, p, q)?;
+        return Ok(whole);
+    }
     let common = p.gcd(alloc, q)?;
     let left = p.exact(alloc, &common)?;
     let right = q.exact(alloc, &common)?;
+    Ok(Cofactors {
+        left,
+        right,
+        common,
+    })
+}
+
+// Coprime polynomials have nothing in common.
+fn apart<F: Field>(alloc: Global, p: &Poly<F>, q: &Poly<F>) -> Result<Cofactors<F>, Stop>
+    requires { Coprime (PolynomialR F.vars) (polynomial F.val p.now) (polynomial F.val q.now) }
+    ensures left { IfOk result (λ s. polynomial F.val p.now ≡ polynomial F.val s.left *ᵖ polynomial F.val s.common) }
+    ensures right { IfOk result (λ s. polynomial F.val q.now ≡ polynomial F.val s.right *ᵖ polynomial F.val s.common) }
+    ensures coprime { IfOk result (λ s. Coprime (PolynomialR F.vars) (polynomial F.val s.left) (polynomial F.val s.right)) }
+    ensures monic { IfOk result (λ s. IsMonic (map F.val s.common)) }
+    ensures wide { IfErr result KeepsWideStep }
+{
+    let common = Poly::one(alloc)?;
+    let left = p.copy(alloc)?;
+    let right = q.copy(alloc)?;
     Ok(Cofactors {
         left,
         right,

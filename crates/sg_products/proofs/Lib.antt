@@ -1,0 +1,6 @@
+pub mod Raising
+pub mod Moving
+pub mod Flattening
+pub mod Calls
+pub mod Combining
+pub mod Slicing

@@ -1,7 +1,9 @@
 -- What the inspection answers is sound, for expressions without products and parameter.
 --   facts_sound       the facts are
---   no_letter         and their sums hold no parameter
-use Rattle.std.proofs.Common.{◌≡◌, ℕ, ℤ, pos, negsuc, ◌≤ℤ◌, Bool, true, false, true≢false, None, Some, refl, sym, ap, subst, List, [], ◌∷◌, ◌++◌, map, All, arith}
+--   letter_of         what is in form without the parameter holds none
+--   no_letter         so the sums of the facts hold none
+--   sums_form         the sums of expressions in form are in form
+use Rattle.std.proofs.Common.{◌≡◌, ℕ, ℤ, pos, negsuc, ◌≤ℤ◌, Bool, true, false, true≢false, None, Some, refl, sym, subst, List, [], ◌∷◌, All, arith}
 use Rattle.std.proofs.lemmas.Int.{ints}
 use Rattle.sg_algebra.specs.Coefficients.{Each}
 use Rattle.sg_algebra.proofs.Value.{Value}
@@ -10,7 +12,6 @@ use Rattle.sg_spec.specs.Printing.{InForm}
 use Rattle.sg_spec.specs.Limits.{counted}
 use Rattle.sg_spec.specs.Faults.{parts_of, AreSpared}
 use Rattle.sg_spec.specs.Generators.{all_sums, concatenated, sums, prods, start}
-use Rattle.sg_expr.specs.Tree.{tree_of}
 use Rattle.sg_value_theory.proofs.TowerOf.{IsSound}
 use Rattle.sg_value_theory.proofs.Lists.{each-at}
 use Rattle.sg_depth_theory.proofs.Listed.{over_earlier, once, few_listed, start_high}
@@ -46,7 +47,7 @@ module _ {d : ℕ} (letter : Value d) (a : ℤ) (es : List Tree) (forms : Each (
 
 -- ---- No parameter
 
-letter_of : (d : ℕ) (in_product : Bool) (t : Tree) → InForm false in_product t → HasNoLetter d t
+pub letter_of : (d : ℕ) (in_product : Bool) (t : Tree) → InForm false in_product t → HasNoLetter d t
 letter_of d p (numeral c) f = tt
 letter_of d p here f = tt
 letter_of d p param f = absurd (true≢false (sym f))
@@ -79,3 +80,24 @@ all_of P xs h k i l = each-at P xs k i l h
 
 pub no_letter : (d : ℕ) (a : ℤ) (es : List Tree) → Each (InForm false false) es → (facts : Facts) → AreFacts facts (Some a) es → All (HasNoLetter d) (sums_of facts)
 no_letter d a es f facts are = subst (λ (ss : List Tree). All (HasNoLetter d) ss) (sym are.sums_are) (all_of (HasNoLetter d) (sums es) (each_with_new (HasNoLetter d) [] (concatenated all_sums es) tt (concatenated_letter d es f)))
+
+-- ---- In form
+
+forms_of : (p : Bool) (t : Tree) → InForm false p t → Each (InForm false false) (all_sums t)
+forms_of p (numeral c) i = tt
+forms_of p here i = tt
+forms_of p param i = tt
+forms_of p (add x y) i = each_append (InForm false false) (all_sums x) (all_sums y) (forms_of p x i.0) (forms_of p y i.1)
+forms_of p (neg x) i = forms_of p x i
+forms_of p (mul x y) i = each_append (InForm false false) (all_sums x) (all_sums y) (forms_of p x i.0) (forms_of p y i.1)
+forms_of p (div x y) i = each_append (InForm false false) (all_sums x) (all_sums y) (forms_of p x i.0) (forms_of p y i.1)
+forms_of p (power x e) i = forms_of p x i
+forms_of p (sum_from a x) i = each_append (InForm false false) (all_sums x) (sum_from a x ∷ []) (forms_of false x i.2) ((refl, i.1, i.2), tt)
+forms_of p (prod_from a x) i = forms_of true x i.2
+
+forms_all : (es : List Tree) → Each (InForm false false) es → Each (InForm false false) (concatenated all_sums es)
+forms_all [] i = tt
+forms_all (e ∷ es) i = each_append (InForm false false) (all_sums e) (concatenated all_sums es) (forms_of false e i.0) (forms_all es i.1)
+
+pub sums_form : (es : List Tree) → Each (InForm false false) es → Each (InForm false false) (sums es)
+sums_form es i = each_with_new (InForm false false) [] (concatenated all_sums es) tt (forms_all es i)

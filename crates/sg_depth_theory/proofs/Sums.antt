@@ -1,6 +1,7 @@
 -- What soundness says of the sum at a place in the list, and of those before it.
 --   over-earlier       it is a sum over those before it
 --   next-built, next-starts, next-has      its body is built over those before it, has values, and its range doesn't run down
+--   each_place         what holds at the first places of a list holds at each place of some of them
 --   frees-have         each sum at one of the places has a value everywhere
 use Rattle.std.proofs.Common.{◌≡◌, ℕ, zero, suc, ◌<◌, ℤ, pos, ◌-ℤ◌, ◌≤ℤ◌, refl, sym, ap, ◌∙◌, subst, List, [], ◌∷◌, ◌++◌, length, take, drop, get_or, arith}
 use Rattle.std.proofs.Math.Seq.{take-suc}
@@ -20,7 +21,7 @@ split_at (suc n) [] d l = absurd (omega (arith, l))
 split_at zero (x ∷ xs) d l = refl
 split_at (suc n) (x ∷ xs) d l = ap (λ ys. x ∷ ys) (split_at n xs d (omega (arith, l)))
 
-each_place : (P : Tree → Type 0) (ss : List Tree) (m : ℕ) (places : List ℕ) → ((i : ℕ) → i < m → P (get_or ss i here)) → Each (λ i. i < m) places → Each P (at_places ss places)
+pub each_place : (P : Tree → Type 0) (ss : List Tree) (m : ℕ) (places : List ℕ) → ((i : ℕ) → i < m → P (get_or ss i here)) → Each (λ i. i < m) places → Each P (at_places ss places)
 each_place P ss m [] k h = tt
 each_place P ss m (i ∷ is) k h = (k i h.0, each_place P ss m is k h.1)
 

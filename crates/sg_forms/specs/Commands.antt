@@ -1,5 +1,4 @@
 -- What is answered of the expressions of a command.
---   HasNoProduct e               no product stands in e
 --   IsFirstSimplified a es h     h is the simplest form of the first expression over the sums of all, from the start of all from a on
 --   HasOneForm es h              for expressions over the same sums the simplest form is h exactly where they agree with the first expression from some point on
 --   FirstTelescopes a es         the second expression telescopes the first at every place from the start of all from a on
@@ -9,7 +8,7 @@
 use Rattle.std.specs.Prelude.{◌≡◌, ◌↔◌, ℤ, List, [], ◌∷◌, Option, None, Some, false}
 use Rattle.sg_algebra.specs.Coefficients.{Each}
 use Rattle.sg_spec.specs.Tree.{Tree}
-use Rattle.sg_spec.specs.Generators.{all_prods, sums, start}
+use Rattle.sg_spec.specs.Generators.{sums, start}
 use Rattle.sg_spec.specs.Telescoping.{Agree}
 use Rattle.sg_spec.specs.Printing.{InForm}
 use Rattle.sg_forms_theory.specs.Sums.{AreStandings, IsSimplest}
@@ -17,9 +16,6 @@ use Rattle.sg_forms_theory.specs.Checks.{TelescopesFrom, FailsBeyond}
 use Rattle.sg_forms.specs.Wholes.{IsWhole}
 use Rattle.sg_forms.specs.Marks.{marks_of}
 use Rattle.sg_forms.specs.declared.frees.Standing.{Standing}
-
-abbrev pub HasNoProduct : Tree → Type 0
-HasNoProduct e = all_prods e ≡ []
 
 abbrev pub IsFirstSimplified : ℤ → List Tree → Tree → Type 0
 IsFirstSimplified a [] h = ⊥

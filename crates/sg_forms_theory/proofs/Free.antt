@@ -18,6 +18,7 @@ use Rattle.sg_value_theory.proofs.TowerOf.{IsTowerOf, at_places, Ascending}
 use Rattle.sg_value_theory.proofs.PointsOf.{HasValues, points, points-are, points-late, next-place}
 use Rattle.sg_value_theory.proofs.Lists.{each-at}
 use Rattle.sg_value_theory.proofs.NoneMeansNone.{known_expressed}
+use Rattle.sg_depth_theory.proofs.Sums.{each_place}
 use Rattle.sg_forms_theory.specs.Sums.{IsFree}
 use Rattle.sg_forms_theory.proofs.Prefix.{Split, split_places, without-known, New, without-new, grows}
 
@@ -33,10 +34,6 @@ each_right : {A : Type 0} (P : A → Type 0) (xs ys : List A) → Each P (xs ++ 
 each_right P [] ys h = h
 each_right P (x ∷ xs) ys h = each_right P xs ys h.1
 
-each_place : (P : Tree → Type 0) (ss : List Tree) (places : List ℕ) → Each P ss → Each (λ i. i < length ss) places → Each P (at_places ss places)
-each_place P ss [] h i = tt
-each_place P ss (n ∷ ns) h i = (each-at P ss n here i.0 h, each_place P ss ns h i.1)
-
 module _ (s : ℤ) where
   -- ---- The last of the sums
 
@@ -46,7 +43,7 @@ module _ (s : ℤ) where
     lower = without-new no_letter s [] before g F β places known is ascends inside has
 
     frees : Each (HasValues no_letter) (at_places before places)
-    frees = each_place (HasValues no_letter) before places all inside
+    frees = each_place (HasValues no_letter) before (length before) places (λ i l. each-at (HasValues no_letter) before i here l all) inside
 
     least : s ≤ℤ s
     least = omega (arith, ints)

@@ -1,15 +1,11 @@
 -- The sum of the first expression of a command, over the sums of all.
---   HasNoProduct e            no product stands in e
 --   IsFirstClosed a es h      h is a closed form of the sum of the first expression from a on, from the start of all on
 --   HasNoFirst es             no expression over the sums telescopes the first expression from any point on
-use Rattle.std.specs.Prelude.{◌≡◌, ℤ, List, [], ◌∷◌}
+use Rattle.std.specs.Prelude.{ℤ, List, [], ◌∷◌}
 use Rattle.sg_spec.specs.Tree.{Tree}
-use Rattle.sg_spec.specs.Generators.{all_prods, sums, start, Over}
+use Rattle.sg_spec.specs.Generators.{sums, start, Over}
 use Rattle.sg_spec.specs.Closed.{Closed}
 use Rattle.sg_spec.specs.Telescoping.{Tele}
-
-abbrev pub HasNoProduct : Tree → Type 0
-HasNoProduct e = all_prods e ≡ []
 
 abbrev pub IsFirstClosed : ℤ → List Tree → Tree → Type 0
 IsFirstClosed a [] h = ⊥

@@ -28,7 +28,7 @@ use Rattle.sg_value_theory.proofs.Regular.{regular_along}
 use Rattle.sg_value_theory.proofs.Evaluations.{evaluation, constant-has}
 use Rattle.sg_value_theory.proofs.NoneMeansNone.{none_means_none}
 use Rattle.sg_value_theory.proofs.Closing.{closing}
-use Rattle.sg_depth_theory.proofs.Sums.{units, has-values}
+use Rattle.sg_depth_theory.proofs.Sums.{units, has-values, each_place}
 
 pairwise_items : {A B C : Type 0} (R : A → C → Type 0) (m : B → C) (xs : List A) (ys : List B) → Pairwise R xs (map m ys) → Pairwise (λ x y. R x (m y)) xs ys
 pairwise_items R m [] [] h = tt
@@ -39,10 +39,6 @@ pairwise_items R m (x ∷ xs) (y ∷ ys) h = (h.0, pairwise_items R m xs ys h.1)
 each_from : {A : Type 0} (P : A → Type 0) (xs : List A) (d : A) → ((i : ℕ) → i < length xs → P (get_or xs i d)) → Each P xs
 each_from P [] d h = tt
 each_from P (x ∷ xs) d h = (h 0 (omega arith), each_from P xs d (λ i l. h (suc i) (omega (arith, l))))
-
-each_place : (P : Tree → Type 0) (ss : List Tree) (m : ℕ) (places : List ℕ) → ((i : ℕ) → i < m → P (get_or ss i here)) → Each (λ i. i < m) places → Each P (at_places ss places)
-each_place P ss m [] k h = tt
-each_place P ss m (i ∷ is) k h = (k i h.0, each_place P ss m is k h.1)
 
 module _ (s : ℤ) (ps ss : List Tree) {E : Type 0} (F : Formal 0) (m : E → Element F) (places : List ℕ) (known : List E) (is : IsTowerOf no_letter s ps ss F places (map m known)) (sound : IsSound no_letter s ps ss) where
   no-units : Each (HasUnits no_letter) ps

@@ -6,15 +6,16 @@
 --   parts_form              each part of what is read is as what is read
 --   first_form              so is the part that is the first of some kind
 --   polynomial_spared       a polynomial has no parts
-use Rattle.std.proofs.Common.{◌≡◌, ℕ, zero, suc, ◌+◌, refl, ap, ap₂, ◌∙◌, subst, Bool, true, false, List, [], ◌∷◌, ◌++◌, ℤ}
+use Rattle.std.proofs.Common.{◌≡◌, ℕ, zero, suc, ◌+◌, refl, ap, ap₂, subst, Bool, true, false, List, [], ◌∷◌, ◌++◌, ℤ}
 use Rattle.sg_algebra.specs.Coefficients.{Each}
 use Rattle.sg_spec.specs.Tree.{Tree, numeral, here, param, add, neg, mul, div, power, sum_from, prod_from}
-use Rattle.sg_spec.specs.Generators.{Over, all_sums, all_prods, sums, prods, distinct, concatenated}
+use Rattle.sg_spec.specs.Generators.{Over, all_sums, all_prods, sums, prods, distinct}
 use Rattle.sg_spec.specs.Polynomials.{IsPolynomial}
 use Rattle.sg_spec.specs.Printing.{InForm}
 use Rattle.sg_spec.specs.Parts.{Part, Role, anywhere, divides, is_body, parts, own_part}
 use Rattle.sg_spec.specs.Faults.{Numbered, with_item, parts_from, First, AreSpared}
-use Rattle.sg_top.specs.Stages.{HasNoProduct}
+use Rattle.sg_written.proofs.Plain.{HasNoProduct, none_multiplied}
+use Rattle.sg_limits.proofs.Elementary.{each_append}
 use Rattle.sg_top.specs.Taking.{IsRational}
 
 -- ---- Without sums and products
@@ -82,18 +83,10 @@ no_sums t h = ap (λ (ts : List Tree). distinct (ts ++ [])) h.0
 pub no_products : (t : Tree) → IsRational t → prods (t ∷ []) ≡ []
 no_products t h = ap (λ (ts : List Tree). distinct (ts ++ [])) h.1
 
-concatenated_plain : (es : List Tree) → Each HasNoProduct es → concatenated all_prods es ≡ []
-concatenated_plain [] h = refl
-concatenated_plain (e ∷ es) h = ap (λ (l : List Tree). l ++ concatenated all_prods es) h.0 ∙ concatenated_plain es h.1
-
 pub no_prods_form : (es : List Tree) → Each HasNoProduct es → Each (InForm false false) (prods es)
-no_prods_form es h = let none : prods es ≡ [] = ap distinct (concatenated_plain es h) in rw none tt
+no_prods_form es h = let none : prods es ≡ [] = none_multiplied es h in rw none tt
 
 -- ---- In reader's form
-
-each_append : {A : Type 0} (P : A → Type 0) (xs ys : List A) → Each P xs → Each P ys → Each P (xs ++ ys)
-each_append P [] ys h k = k
-each_append P (x ∷ xs) ys h k = (h.0, each_append P xs ys h.1 k)
 
 each_at : {A : Type 0} (P : A → Type 0) (before after : List A) (x : A) → Each P (before ++ x ∷ after) → P x
 each_at P [] after x h = h.0

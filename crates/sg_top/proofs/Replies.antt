@@ -34,7 +34,8 @@ use Rattle.sg_value.specs.Answer.{IsValue}
 use Rattle.sg_words.specs.declared.asked.Command.TheVariants.{Sum, Value, ValueAtParameter}
 use Rattle.sg_top.specs.Lines.{item_line, closed_line, none_line, letters_at, part_text}
 use Rattle.sg_nested.specs.Commands.{IsFirstClosed, HasNoFirst}
-use Rattle.sg_top.specs.Stages.{HasNoProduct, IsTaken}
+use Rattle.sg_written.proofs.Plain.{HasNoProduct}
+use Rattle.sg_top.specs.Stages.{IsTaken}
 use Rattle.sg_top.specs.Refusals.{IsPoleRefusal, IsSpared, HasHeavyPart}
 use Rattle.sg_top.specs.Output.{IsValueOutput, IsNarrow}
 use Rattle.sg_top.specs.Answer.{IsCountedReply, IsTakenReply}

@@ -6,12 +6,11 @@
 --   MayStand        the expression may stand at this place among the texts, counted from 1
 --   IsReadAt        the text at this place reads as this tree, and it may stand there
 --   AreReadFrom     the texts from this place on read as these trees, one for one; AreRead: from the first one on
---   HasNoProduct    without products
 --   IsTaken         the command answers expressions like this one so far: `value` all, the others those without products
 use Rattle.std.specs.Prelude.{◌≡◌, ℕ, ◌+◌, nat_le, ℤ, Option, Some, None, List, [], ◌∷◌, codes, ◌⊎◌}
 use Rattle.sg_spec.specs.Tree.{Tree, sum_from}
-use Rattle.sg_spec.specs.Generators.{all_prods}
 use Rattle.sg_spec.specs.Reading.{Bounds, IsRead}
+use Rattle.sg_written.proofs.Plain.{HasNoProduct}
 use Rattle.sg_words.specs.declared.asked.Command.{Command}
 use Rattle.sg_words.specs.declared.asked.Command.TheVariants.{Sum, Simplify, Check, Value, ValueAtParameter}
 
@@ -55,9 +54,6 @@ AreReadFrom c item (text ∷ texts) (e ∷ es) = IsReadAt c item text e × AreRe
 
 abbrev pub AreRead : Command → List (List ℕ) → List Tree → Type 0
 AreRead c texts es = AreReadFrom c 1 texts es
-
-abbrev pub HasNoProduct : Tree → Type 0
-HasNoProduct e = all_prods e ≡ []
 
 abbrev pub IsTaken : Command → Tree → Type 0
 IsTaken (Sum a) e = HasNoProduct e

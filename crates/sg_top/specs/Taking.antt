@@ -35,7 +35,8 @@ use Rattle.sg_value.specs.Answer.{step_of}
 use Rattle.sg_words.specs.declared.asked.Command.{Command}
 use Rattle.sg_words.specs.declared.asked.Command.TheVariants.{Sum, Simplify, Check, Value, ValueAtParameter}
 use Rattle.sg_top.specs.Lines.{wide_line, item_line}
-use Rattle.sg_top.specs.Stages.{letters_of, AreRead, HasNoProduct}
+use Rattle.sg_written.proofs.Plain.{HasNoProduct}
+use Rattle.sg_top.specs.Stages.{letters_of, AreRead}
 use Rattle.sg_top.specs.Refusals.{IsTextRefusal, IsCountRefusal, IsPoleRefusal, IsSpared, HasHeavyPart}
 use Rattle.sg_top.specs.Output.{IsValueOutput, IsNarrow}
 use Rattle.sg_top.specs.declared.status.Status.{Status}

@@ -1,5 +1,6 @@
 pub mod Worths
 pub mod Bodies
+pub mod Plain
 pub mod Closes
 pub mod WrittenTerms
 pub mod WrittenElements

@@ -1,3 +1,2 @@
-mod Inverses
-mod Shifting
-mod Solving
+pub mod Factors
+pub mod Solving

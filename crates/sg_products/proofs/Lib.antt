@@ -4,3 +4,5 @@ pub mod Flattening
 pub mod Calls
 pub mod Combining
 pub mod Slicing
+pub mod Growing
+pub mod Supporting

@@ -42,8 +42,8 @@ fn flat_term<F: Field>(alloc: Global, t: &Term<RatFun<F>>) -> Result<FlatTerm<F>
     Ok(FlatTerm { exps, coeff })
 }
 
-// The exponents as a list.
-fn listed(alloc: Global, exps: &[i128]) -> Result<Row<i128>, AllocError>
+/// The exponents as a list.
+pub(crate) fn listed(alloc: Global, exps: &[i128]) -> Result<Row<i128>, AllocError>
     ensures { IfOk result (λ r. r ≡ exps.now) }
 {
     let mut row = Row::new(alloc);
@@ -54,7 +54,8 @@ fn listed(alloc: Global, exps: &[i128]) -> Result<Row<i128>, AllocError>
     Ok(row)
 }
 
-fn pushed(row: &mut Row<i128>, e: i128) -> Result<(), AllocError>
+/// One exponent more.
+pub(crate) fn pushed(row: &mut Row<i128>, e: i128) -> Result<(), AllocError>
     ensures { OnOk result (row.new ≡ row.old ++ e ∷ []) }
 {
     row.push(e)?;

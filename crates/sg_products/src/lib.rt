@@ -8,8 +8,11 @@ mod powers;
 mod rows;
 mod shift;
 mod solve;
+mod supports;
 
 pub use flat::descending_terms;
-pub use powers::{factor, to_power};
 pub use shift::shifted;
 pub use solve::solved;
+
+#[cfg(test)]
+mod tests;

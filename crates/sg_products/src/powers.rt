@@ -10,7 +10,7 @@ use sg_num::{Field, Stop};
 use std::alloc::Global;
 
 /// The product of the powers of the elements by the exponents.
-pub fn factor<K: Field>(alloc: Global, alphas: &[K], exps: &[i128]) -> Result<K, Stop>
+pub(crate) fn factor<K: Field>(alloc: Global, alphas: &[K], exps: &[i128]) -> Result<K, Stop>
     requires some { Each (λ a. ¬ (K.val a ≡ zero_value)) alphas.now }
     requires count { length exps.now ≡ length alphas.now }
     ensures value { IfOk result (λ r. K.val r ≡ powers (ValueF K.vars) (map K.val alphas.now) exps.now) }
@@ -25,8 +25,8 @@ pub fn factor<K: Field>(alloc: Global, alphas: &[K], exps: &[i128]) -> Result<K,
     Ok(product)
 }
 
-/// The power of an element that isn't 0.
-pub fn to_power<K: Field>(alloc: Global, x: &K, e: i128) -> Result<K, Stop>
+// The power of an element that isn't 0.
+fn to_power<K: Field>(alloc: Global, x: &K, e: i128) -> Result<K, Stop>
     requires { ¬ (K.val x.now ≡ zero_value) }
     ensures value { IfOk result (λ r. K.val r ≡ power (ValueF K.vars) (K.val x.now) e) }
     ensures wide { IfErr result KeepsWideStep }

@@ -32,7 +32,7 @@ pub(crate) fn combined<F: Field>(
     };
     for i in 0..rows.len() {
         let c = constant(alloc, cs, i)?;
-        sum = extended(alloc, alphas, &sum, &c, rows.get(i))?;
+        sum = extended(alloc, alphas, sum, &c, rows.get(i))?;
     }
     Ok(sum)
 }
@@ -41,13 +41,16 @@ pub(crate) fn combined<F: Field>(
 fn extended<F: Field>(
     alloc: Global,
     alphas: &[RatFun<F>],
-    acc: &Partial<F>,
+    acc: Partial<F>,
     c: &F,
     row: &Partial<F>,
 ) -> Result<Partial<F>, Stop>
-    ensures value { IfOk result (IsExtended F.val alphas.now acc.now (F.val c.now) row.now) }
+    ensures value { IfOk result (IsExtended F.val alphas.now acc (F.val c.now) row.now) }
     ensures wide { IfErr result KeepsWideStep }
 {
+    if c.is_zero() {
+        return Ok(acc);
+    }
     let coeffs = plus_constants(alloc, &acc.coeffs, c, &row.coeffs)?;
     let more = multiple(alloc, alphas, c, &row.value)?;
     let value = sum_of(alloc, alphas, &acc.value, &more)?;
@@ -152,7 +155,7 @@ fn multiple<F: Field>(
 }
 
 /// The unit rows: no value yet, and all is left.
-pub fn start<F: Field>(
+pub(crate) fn start<F: Field>(
     alloc: Global,
     alphas: &[RatFun<F>],
     fs: &Row<Laurent<RatFun<F>>>,

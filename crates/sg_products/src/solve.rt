@@ -11,14 +11,15 @@ ghost use Rattle.sg_products.specs.Solving.{State, IsSide, IsNextRow, IsFinished
 
 use crate::partial::Partial;
 use crate::powers::factor;
-use crate::rows::{combined, difference_of, power_of, sum_of};
+use crate::rows::{combined, difference_of, power_of, start, sum_of};
 use crate::shift::shifted;
+use crate::supports::supports;
 use sg_laurent::Laurent;
 use sg_matrix::Solution;
 use sg_num::{Field, Row, Stop};
 use sg_ratfun::RatFun;
 use sg_rational::solve_first;
-use std::alloc::{AllocError, Global};
+use std::alloc::Global;
 
 /// All solutions of σ(g) - g = c₀ f₀ + c₁ f₁ + .. with constants c, by a first-order equation for each list of exponents that the
 /// right sides have (Karr 1981, Abramov 1989).
@@ -33,14 +34,19 @@ pub fn solved<F: Field>(
     ensures complete { IfOk result (IsComplete (laurents F.val alphas.now) F.val fs.now) }
     ensures wide { IfErr result KeepsWideStep }
 {
-    let _ = (alloc, alphas, fs);
-    Err(Stop::Memory(AllocError))
+    let es = supports(alloc, alphas, fs)?;
+    let mut rows = start(alloc, alphas, fs)?;
+    for i in 0..es.len() {
+        rows = lowered(alloc, alphas, fs, &es, i, &rows)?;
+    }
+    let answer = finished(alloc, rows)?;
+    Ok(answer)
 }
 
-/// The rows without the exponents at `i`, from those without the exponents before: the coefficients at x^e solve a first-order
-/// equation with the factor that x^e gains at a step, and its solutions, times x^e, leave a problem without these exponents (Karr
-/// 1981, Abramov 1989).
-pub(crate) fn lowered<F: Field>(
+// The rows without the exponents at `i`, from those without the exponents before: the coefficients at x^e solve a first-order
+// equation with the factor that x^e gains at a step, and its solutions, times x^e, leave a problem without these exponents (Karr
+// 1981, Abramov 1989).
+fn lowered<F: Field>(
     alloc: Global,
     alphas: &[RatFun<F>],
     fs: &Row<Laurent<RatFun<F>>>,
@@ -132,8 +138,8 @@ fn next<F: Field>(
     })
 }
 
-/// The rows without what is left.
-pub(crate) fn finished<F: Field>(
+// The rows without what is left.
+fn finished<F: Field>(
     alloc: Global,
     rows: Row<Partial<F>>,
 ) -> Result<Row<Solution<F, Laurent<RatFun<F>>>>, Stop>

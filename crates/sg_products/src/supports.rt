@@ -1,4 +1,4 @@
-ghost use Rattle.std.specs.Prelude.{◌≡◌, ◌∷◌, [], ◌++◌, length, pos, IfOk, IfErr, IsTrue};
+ghost use Rattle.std.specs.Prelude.{◌≡◌, length, IfOk, IfErr, IsTrue, ◌↔◌};
 ghost use Rattle.sg_algebra.specs.Coefficients.{Each};
 ghost use Rattle.sg_num.specs.Stopped.{KeepsWideStep};
 ghost use Rattle.sg_laurent.specs.Elements.{exponents};
@@ -12,7 +12,7 @@ use sg_ratfun::RatFun;
 use std::alloc::{AllocError, Global};
 
 /// Lists of exponents: first that of zeros, then those of the terms of the elements, each once.
-pub fn supports<F: Field>(
+pub(crate) fn supports<F: Field>(
     alloc: Global,
     alphas: &[RatFun<F>],
     fs: &Row<Laurent<RatFun<F>>>,
@@ -26,7 +26,8 @@ pub fn supports<F: Field>(
     es.push(zeros)?;
     for i in 0..fs.len() {
         let f = fs.get(i);
-        es = with_terms(alloc, n, es, f.terms(n))?;
+        let terms = f.terms(n);
+        es = with_terms(alloc, n, es, terms)?;
     }
     Ok(es)
 }
@@ -36,17 +37,10 @@ fn zero_list(alloc: Global, n: usize) -> Result<Row<i128>, AllocError>
     ensures { IfOk result (λ r. r ≡ unit_exponents n n) }
 {
     let mut row = Row::new(alloc);
-    for j in 0..n {
-        pushed(&mut row, zero_at(j))?;
+    for _j in 0..n {
+        pushed(&mut row, 0)?;
     }
     Ok(row)
-}
-
-fn zero_at(j: usize) -> i128
-    ensures { result ≡ pos 0 }
-{
-    let _ = j;
-    0
 }
 
 // The lists, and the exponents of the terms that aren't among them.
@@ -72,7 +66,12 @@ fn with_terms<K: Field>(
 }
 
 // The lists, and this one where it isn't among them.
-fn with_list(alloc: Global, n: usize, es: Row<Row<i128>>, e: &[i128]) -> Result<Row<Row<i128>>, Stop>
+fn with_list(
+    alloc: Global,
+    n: usize,
+    es: Row<Row<i128>>,
+    e: &[i128],
+) -> Result<Row<Row<i128>>, Stop>
     requires own { Each (λ e. length e ≡ n) es }
     requires fit { length e.now ≡ n }
     ensures grows { IfOk result (Grows es) }
@@ -94,9 +93,17 @@ fn is_among(es: &Row<Row<i128>>, e: &[i128]) -> bool
     ensures { IsTrue result → Has e.now es.now }
 {
     for i in 0..es.len() {
-        if es.get(i).as_slice() == e {
+        let own = es.get(i);
+        if are_same(own.as_slice(), e) {
             return true;
         }
     }
     false
+}
+
+// Whether two lists of exponents are one.
+fn are_same(a: &[i128], b: &[i128]) -> bool
+    ensures { IsTrue result ↔ (a.now ≡ b.now) }
+{
+    a == b
 }

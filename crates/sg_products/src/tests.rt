@@ -1,29 +1,130 @@
-use crate::shifted;
-use sg_laurent::Laurent;
-use sg_num::{Field, Rat, Stop};
+use crate::{descending_terms, shifted, solved};
+use sg_laurent::{Laurent, Term};
+use sg_matrix::Solution;
+use sg_num::{Field, Rat, Row, Stop};
+use sg_poly::Poly;
 use sg_ratfun::RatFun;
+use smallvec::SmallVec;
 use std::alloc::Global;
 
-fn constant(alloc: Global, n: i128) -> Result<RatFun<Rat>, Stop> {
-    let c: RatFun<Rat> = RatFun::from_rat(alloc, Rat::whole(n))?;
-    Ok(c)
-}
-
-// 2^k at k + 1
-fn next_power(alloc: Global) -> Result<Laurent<RatFun<Rat>>, Stop> {
-    let alphas = [constant(alloc, 2)?];
-    let x = Laurent::product(alloc, 1, 0)?;
-    let r = shifted(alloc, &alphas, &x)?;
+// The polynomial of these whole coefficients, the lowest first.
+fn polynomial(alloc: Global, list: &[i128]) -> Result<RatFun<Rat>, Stop> {
+    let mut row = Row::new(alloc);
+    for n in list {
+        row.push(Rat::whole(*n))?;
+    }
+    let p = Poly::from_coeffs(alloc, row)?;
+    let r = RatFun::from_poly(alloc, p)?;
     Ok(r)
 }
 
+// The element with one more term: this coefficient at this exponent of one product.
+fn with_term(
+    alloc: Global,
+    x: Laurent<RatFun<Rat>>,
+    e: i128,
+    list: &[i128],
+) -> Result<Laurent<RatFun<Rat>>, Stop> {
+    let coeff = polynomial(alloc, list)?;
+    let exps = SmallVec::from_slice(alloc, &[e])?;
+    let r = x.with_term(alloc, 1, Term { exps, coeff })?;
+    Ok(r)
+}
+
+// k x + 6 / x
+fn element(alloc: Global) -> Result<Laurent<RatFun<Rat>>, Stop> {
+    let x = with_term(alloc, Laurent::zero(alloc, 1), 1, &[0, 1])?;
+    with_term(alloc, x, -1, &[6])
+}
+
+// The element with k + 1 for k, where the product goes to a times itself; 0 where a is 0.
+fn moved(
+    alloc: Global,
+    a: RatFun<Rat>,
+    e: &Laurent<RatFun<Rat>>,
+) -> Result<Laurent<RatFun<Rat>>, Stop> {
+    if a.is_zero() {
+        return Ok(Laurent::zero(alloc, 1));
+    }
+    let alphas = [a];
+    let r = shifted(alloc, &alphas, e)?;
+    Ok(r)
+}
+
+fn next_element(alloc: Global) -> Result<Laurent<RatFun<Rat>>, Stop> {
+    let two = polynomial(alloc, &[2])?;
+    let e = element(alloc)?;
+    moved(alloc, two, &e)
+}
+
+// Whether the coefficient at the exponent is the polynomial.
+fn has(alloc: Global, x: &Laurent<RatFun<Rat>>, e: i128, list: &[i128]) -> Result<bool, Stop> {
+    let want = polynomial(alloc, list)?;
+    let c = x.coefficient(alloc, 1, &[e])?;
+    let same = c.same(alloc, &want)?;
+    Ok(same)
+}
+
+// 2^k: k 2^k + 6 / 2^k goes to (2 k + 2) 2^k + 3 / 2^k.
 #[test]
-fn doubles(rt: HostRuntime) {
-    let r = next_power(rt.alloc());
+fn shifts_powers_of_two(rt: HostRuntime) {
+    let r = next_element(rt.alloc());
     assert!(rt; r.is_ok());
     if let Ok(r) = r {
-        let c = r.coefficient(rt.alloc(), 1, &[1]);
-        let two = constant(rt.alloc(), 2);
-        assert!(rt; matches!((&c, &two), (Ok(c), Ok(t)) if matches!(c.same(rt.alloc(), t), Ok(true))));
+        for (e, list) in [(1, [2, 2].as_slice()), (0, &[]), (-1, &[3])] {
+            assert!(rt; matches!(has(rt.alloc(), &r, e, list), Ok(true)), "{e}");
+        }
+    }
+}
+
+fn exponents_of(alloc: Global) -> Result<Row<i128>, Stop> {
+    let alphas = [polynomial(alloc, &[2])?];
+    let e = element(alloc)?;
+    let mut row = Row::new(alloc);
+    for t in descending_terms(alloc, &alphas, &e)?.into_vec() {
+        for e in t.exps.as_slice() {
+            row.push(*e)?;
+        }
+    }
+    Ok(row)
+}
+
+#[test]
+fn lists_terms(rt: HostRuntime) {
+    let row = exponents_of(rt.alloc());
+    assert!(rt; matches!(&row, Ok(r) if r.as_slice() == [1, -1].as_slice()));
+}
+
+// The solutions for the right side 2 k, without products.
+fn sums_of_even_numbers(alloc: Global) -> Result<Row<Solution<Rat, Laurent<RatFun<Rat>>>>, Stop> {
+    let f = Laurent::constant(alloc, 0, polynomial(alloc, &[0, 2])?)?;
+    let mut fs = Row::new(alloc);
+    fs.push(f)?;
+    let rows = solved(alloc, &[], &fs)?;
+    Ok(rows)
+}
+
+// Whether the element is c (k^2 - k) and a constant.
+fn is_known(alloc: Global, s: &Solution<Rat, Laurent<RatFun<Rat>>>) -> Result<bool, Stop> {
+    if s.coeffs.is_empty() {
+        return Ok(false);
+    }
+    let c: RatFun<Rat> = RatFun::from_rat(alloc, *s.coeffs.get(0))?;
+    let part = polynomial(alloc, &[0, -1, 1])?.mul(alloc, &c)?;
+    let g = s.value.coefficient(alloc, 0, &[])?;
+    let rest = g.sub(alloc, &part)?;
+    let constant = rest.constant(alloc)?;
+    Ok(constant.is_some())
+}
+
+// 0 + 2 + .. + 2 (k - 1) = k^2 - k
+#[test]
+fn telescopes_even_numbers(rt: HostRuntime) {
+    let rows = sums_of_even_numbers(rt.alloc());
+    assert!(rt; matches!(&rows, Ok(r) if r.len() == 2));
+    if let Ok(rows) = rows {
+        for s in rows.as_slice() {
+            assert!(rt; matches!(is_known(rt.alloc(), s), Ok(true)));
+        }
     }
 }

@@ -1,5 +1,6 @@
 pub mod Rows
 pub mod Powers
+pub mod Combined
 pub mod Vanishing
 pub mod Meeting
 pub mod Candidates

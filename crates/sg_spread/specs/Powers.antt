@@ -6,6 +6,7 @@
 --   IsVanishing n values p      where the first n values and the others are the coefficients of monic polynomials, p is 0 at each shift at which these
 --                               aren't coprime
 --   IsSome p                    some coefficient isn't 0
+--   IsCertificate a b r         r has the coefficients of a polynomial D with D(j - k) = 0 modulo a(k) and b(j)
 use Rattle.std.specs.Prelude.{◌≡◌, ℕ, ◌-◌, ◌<◌, ◌≤◌, List, [], length, map, take, drop, get_or, ℤ}
 use Rattle.sg_algebra.proofs.Value.{Value, zero_value}
 use Rattle.sg_algebra.proofs.ValueField.{ValueR}
@@ -18,6 +19,7 @@ use Rattle.sg_num.specs.Value.{number}
 use Rattle.sg_num.specs.declared.rat.Rat.{Rat}
 use Rattle.sg_theory.proofs.Step.{iterate}
 use Rattle.sg_theory.proofs.StepRow.{Stands, step_at}
+use Rattle.sg_theory.proofs.Certificate.{Certificate}
 use Rattle.sg_theory.proofs.PowerTable.{PowerTable}
 use Rattle.sg_spread.specs.Shifts.{AreCoprimeAt}
 
@@ -35,6 +37,9 @@ pub record IsNullBasis (d e : ℕ) (a b : List (Value 0)) (n : ℕ) (basis : Lis
 pub record IsSome (p : List (Value 0)) : Type 0 where
   pub place : ℕ
   pub some : ¬ (coefficient p place ≡ zero_value)
+
+abbrev pub IsCertificate : List Rat → List Rat → List Rat → Type 0
+IsCertificate a b r = Certificate (ValueR 0) (length a - 1) (length b - 1) (map number a) (map number b) (map number r)
 
 abbrev pub step_of : List Rat → List Rat → List Rat → ℕ → Value 0
 step_of a b row p = step_at (ValueR 0) (length a - 1) (length b - 1) (map number a) (map number b) (map number row) p

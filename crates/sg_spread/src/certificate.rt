@@ -1,32 +1,94 @@
 //! A polynomial that is 0 at each shift at which two monic polynomials have a common divisor.
-ghost use Rattle.std.specs.Prelude.{◌≡◌, ℕ, ◌+◌, ◌*◌, ◌-◌, ◌<◌, [], length, map, get_or, OnOk, IfOk, IfErr};
+ghost use Rattle.std.specs.Prelude.{◌≡◌, ℕ, ◌+◌, ◌*◌, ◌-◌, ◌<◌, [], length, map, get_or, OnOk, IfOk, IfErr, IfSome, IsTrue};
 ghost use Rattle.sg_algebra.proofs.ValueField.{ValueR};
 ghost use Rattle.sg_algebra.proofs.Polynomial.{coefficient};
 ghost use Rattle.sg_algebra.proofs.Rows.{Builds};
 ghost use Rattle.sg_num.specs.Stopped.{KeepsWideStep};
 ghost use Rattle.sg_num.specs.Value.{number};
-ghost use Rattle.sg_theory.proofs.Certificate.{Certificate};
-ghost use Rattle.sg_spread.specs.Powers.{ArePowers, AreColumns, IsNullBasis, IsSome};
+ghost use Rattle.sg_spread.specs.Powers.{ArePowers, AreColumns, IsNullBasis, IsSome, IsCertificate};
 
+use crate::horner::vanishes;
+use crate::power_sums::guessed;
 use crate::step::{first_row, row_after};
 use sg_matrix::null_basis;
 use sg_num::{Rat, Row, Stop};
 use std::alloc::{AllocError, Global};
 
 /// The coefficients, not all 0, of a polynomial that is 0 at each shift m at which a(k) and b(k+m) have a common divisor of
-/// positive degree. `a` and `b` are the coefficients of monic polynomials of positive degree. It comes of the first linear
-/// dependence of the powers of j - k, where k is a root of a and j one of b.
+/// positive degree. `a` and `b` are the coefficients of monic polynomials of positive degree. It is guessed by sums of powers,
+/// and where that fails it comes of an elimination.
 pub(crate) fn certificate(alloc: Global, a: &[Rat], b: &[Rat]) -> Result<Row<Rat>, Stop>
     requires some { 1 < length a.now }
     requires others { 1 < length b.now }
     ensures some { IfOk result (λ r. IsSome (map number r)) }
-    ensures certificate { IfOk result (λ r. Certificate (ValueR 0) (length a.now - 1) (length b.now - 1) (map number a.now) (map number b.now) (map number r)) }
+    ensures certificate { IfOk result (IsCertificate a.now b.now) }
     ensures wide { IfErr result KeepsWideStep }
 {
     let Some(size) = (a.len() - 1).checked_mul(b.len() - 1) else {
         // more numbers than a memory has room for
         return Err(Stop::Memory(AllocError));
     };
+    if let Some(list) = tried(alloc, a, b, size)? {
+        return Ok(list);
+    }
+    let list = dependence(alloc, a, b, size)?;
+    Ok(list)
+}
+
+// The guess where it serves; none where a step towards it is wide.
+fn tried(alloc: Global, a: &[Rat], b: &[Rat], size: usize) -> Result<Option<Row<Rat>>, Stop>
+    requires some { 1 < length a.now }
+    requires others { 1 < length b.now }
+    requires size { size ≡ (length a.now - 1) * (length b.now - 1) }
+    ensures some { IfOk result (λ o. IfSome o (λ r. IsSome (map number r))) }
+    ensures certificate { IfOk result (λ o. IfSome o (IsCertificate a.now b.now)) }
+    ensures wide { IfErr result KeepsWideStep }
+{
+    match serving(alloc, a, b, size) {
+        Ok(found) => Ok(found),
+        Err(Stop::Wide(_)) => Ok(None),
+        Err(stop) => Err(stop),
+    }
+}
+
+// The guess where it serves.
+fn serving(alloc: Global, a: &[Rat], b: &[Rat], size: usize) -> Result<Option<Row<Rat>>, Stop>
+    requires some { 1 < length a.now }
+    requires others { 1 < length b.now }
+    requires size { size ≡ (length a.now - 1) * (length b.now - 1) }
+    ensures some { IfOk result (λ o. IfSome o (λ r. IsSome (map number r))) }
+    ensures certificate { IfOk result (λ o. IfSome o (IsCertificate a.now b.now)) }
+    ensures wide { IfErr result KeepsWideStep }
+{
+    let list = guessed(alloc, a, b, size)?;
+    if !ends_nonzero(list.as_slice()) {
+        return Ok(None);
+    }
+    if !vanishes(alloc, a, b, size, list.as_slice())? {
+        return Ok(None);
+    }
+    Ok(Some(list))
+}
+
+// Whether there is a last item other than 0.
+fn ends_nonzero(list: &[Rat]) -> bool
+    ensures { IsTrue result → IsSome (map number list.now) }
+{
+    if list.is_empty() {
+        return false;
+    }
+    !list[list.len() - 1].is_zero()
+}
+
+// The first linear dependence of the powers of j - k, where k is a root of a and j one of b.
+fn dependence(alloc: Global, a: &[Rat], b: &[Rat], size: usize) -> Result<Row<Rat>, Stop>
+    requires some { 1 < length a.now }
+    requires others { 1 < length b.now }
+    requires size { size ≡ (length a.now - 1) * (length b.now - 1) }
+    ensures some { IfOk result (λ r. IsSome (map number r)) }
+    ensures certificate { IfOk result (IsCertificate a.now b.now) }
+    ensures wide { IfErr result KeepsWideStep }
+{
     let mut rows = Row::new(alloc);
     rows.push(first_row(alloc, size)?)?;
     for _ in 0..size {

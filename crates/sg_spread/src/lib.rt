@@ -3,7 +3,9 @@
 
 mod certificate;
 mod elimination;
+mod horner;
 mod meetings;
+mod power_sums;
 mod radical;
 mod shifts;
 mod split;

@@ -31,7 +31,7 @@ fn are(alloc: Global, a: &[i128], b: &[i128], want: &[i128]) -> Result<bool, Sto
 // The shifts were found by hand, from the roots.
 #[test]
 fn finds_known_shifts(rt: HostRuntime) {
-    let cases: [(&[i128], &[i128], &[i128]); 19] = [
+    let cases: [(&[i128], &[i128], &[i128]); 21] = [
         (&[0, 1], &[3, 1], &[-3]),
         (&[0, -1, 1], &[0, 1], &[-1, 0]),
         (&[0, 1], &[0, -1, 1], &[0, 1]),
@@ -116,6 +116,9 @@ fn finds_known_shifts(rt: HostRuntime) {
             &[-1000001, -1000000, -999999, -1, 3000000],
         ),
         (&[1, 0, 1], &[1000000000001, -2000000, 1], &[1000000]),
+        // two factors of degree 2 on each side
+        (&[323, -62, 15, -4, 1], &[741, 283, 96, 15, 1], &[-5]),
+        (&[77, -2, 3, -2, 1], &[55, -14, 11, -4, 1], &[-3, 0, 1, 4]),
     ];
     for (a, b, want) in cases {
         assert!(rt;

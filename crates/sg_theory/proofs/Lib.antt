@@ -4,6 +4,7 @@ pub mod Step
 pub mod Modulo
 pub mod Multiples
 pub mod Certificate
+pub mod Horner
 pub mod RowPlaces
 pub mod StepRow
 pub mod SomeCertificate

@@ -14,7 +14,7 @@ use Rattle.sg_algebra.proofs.Solver.{ring, by, scale, reads}
 use Rattle.sg_algebra.proofs.Field.{domain, product_ne}
 use Rattle.sg_algebra.proofs.Coprime.{Coprime, coprime_symm, coprime_same, coprime_one, coprime-mul, coprime_on}
 use Rattle.sg_algebra.proofs.PolynomialRing.{PolyR, X, cons-is, constantH, one_coefficient}
-use Rattle.sg_algebra.proofs.Evaluation.{eval-mul, eval_cong}
+use Rattle.sg_algebra.proofs.Evaluation.{eval-mul}
 use Rattle.sg_algebra.proofs.Shift.{moved, movedH, moved_cong, moved-moved, moved-O, moved-eval}
 
 module _ (F : Field) where

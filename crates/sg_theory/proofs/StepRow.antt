@@ -5,6 +5,7 @@
 --   step_at_by                  it is  up - b_l low - left + a_i last,  for the items that `Parts` says
 --   Parts R d e row p up low left last    `up` is the item d places before p, or 0 in the first line; `left` is the item before p, or 0 at the start of a line;
 --                               `low` stands in the last line in the column of p, and `last` ends the line of p
+--   stands_by                   a row whose items are the entries of an array, place by place
 --   step_stands                 a row whose items are `step_at` of a row before it is the array after a step
 use Rattle.std.proofs.Common.{◌≡◌, ℕ, zero, suc, ◌+◌, ◌*◌, ◌-◌, ◌/◌, ◌%◌, ◌≤◌, ◌<◌, refl, sym, List, length, arith}
 use Rattle.std.proofs.lemmas.Nat.{div-mul-add, mod-mul-add}
@@ -69,7 +70,7 @@ module _ (R : Ring) (d e : ℕ) where
   -- ---- Rows that are built item by item
 
   -- the items of a row, place by place, are entries of an array
-  stands_by : (row : List A) (w : ℕ → ℕ → A) → length row ≡ d * e → ((p : ℕ) → p < d * e → coef R row p ≈ w (p / d) (p % d)) → Stands row w
+  pub stands_by : (row : List A) (w : ℕ → ℕ → A) → length row ≡ d * e → ((p : ℕ) → p < d * e → coef R row p ≈ w (p / d) (p % d)) → Stands row w
   stands_by row w s h = record {
     size = s;
     entry = λ l i p q. rw (div-mul-add l d i q, mod-mul-add l d i q) at (h (l * d + i) (place_below l i d e p q));

@@ -2,7 +2,7 @@ use Rattle.std.proofs.Common.{◌≡◌, ◌-◌, ◌+◌, ◌*◌, ◌<◌, map
 use Rattle.sg_num.specs.Value.{number}
 use Rattle.sg_num.specs.declared.rat.Rat.{Rat}
 use Rattle.sg_spread.specs.Powers.{ArePowers, IsNullBasis}
-use Rattle.sg_spread.proofs.certificate.certificate.Given as goal
+use Rattle.sg_spread.proofs.certificate.dependence.Given as goal
 
 -- after each turn there is one row more, and no dependence was found
 abbrev pub invariant-loop : goal.invariant-loop

@@ -6,7 +6,7 @@ use Rattle.sg_num.specs.declared.rat.Rat.{Rat}
 use Rattle.sg_theory.proofs.Certificate.{Certificate}
 use Rattle.sg_spread.specs.Powers.{IsSome}
 use Rattle.sg_spread.proofs.Powers.{null_some, null_is, null_none, product_some}
-use Rattle.sg_spread.proofs.certificate.certificate.Goals as goal
+use Rattle.sg_spread.proofs.certificate.dependence.Goals as goal
 
 pub returns-then-not-is_empty-clause-some : goal.returns-then-not-is_empty-clause-some
 returns-then-not-is_empty-clause-some c =

@@ -1,3 +1,3 @@
-mod Inverses
-mod Shifting
-mod Solving
+pub mod Factors
+pub mod Solving
+pub mod ConstantFactor

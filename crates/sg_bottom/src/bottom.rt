@@ -1,153 +1,191 @@
-ghost use Rattle.std.specs.Prelude.{IfOk, IfErr};
-ghost use Rattle.sg_num.specs.Stopped.{KeepsWideStep};
-ghost use Rattle.sg_tower.specs.Terms.{IsGenerator};
-ghost use Rattle.sg_bottom.specs.Functions.{functions};
+ghost use Rattle.std.specs.Prelude.{◌≡◌, ◌≤◌, [], length, map};
+ghost use Rattle.sg_tower_theory.proofs.Formal.{IndependentFactors};
+ghost use Rattle.sg_ratfun.specs.Fractions.{ratio};
+ghost use Rattle.sg_bottom.specs.Factors.{AreNonzero};
 
+use crate::functions::antidifferences;
+use sg_laurent::Laurent;
 use sg_matrix::Solution;
 use sg_num::{Field, Row, Stop};
+use sg_products::{descending_terms, shifted, solved};
 use sg_ratfun::RatFun;
-use sg_rational::solve_first;
 use sg_tower::{FlatTerm, Tower};
 use std::alloc::Global;
-use std::marker::PhantomData;
 
-/// The tower without products and sums over the constants F: its elements are the rational functions of k.
+/// The tower of some products over the rational functions of k, where a product goes to its factor times itself as k goes to k + 1
+/// (Karr 1981).
 #[derive(Drop)]
 pub struct Bottom<F: Field> {
-    constants: PhantomData<F>,
+    alphas: Row<RatFun<F>>,
+    pub ghost few: { length alphas ≤ 20 },
+    pub ghost nonzero: { AreNonzero F.val alphas },
+    pub ghost free: { IndependentFactors (map (ratio F.val) alphas) },
 }
 
 impl<F: Field> Bottom<F> {
-    /// The tower.
-    pub fn new() -> Bottom<F> {
+    /// The tower of the products with these factors: at most twenty, none is 0, and no product of powers of them but the trivial
+    /// one is r(k+1)/r(k) for a rational function r.
+    pub fn new(alphas: Row<RatFun<F>>) -> Bottom<F>
+        requires few { length alphas ≤ 20 }
+        requires nonzero { AreNonzero F.val alphas }
+        requires free { IndependentFactors (map (ratio F.val) alphas) }
+        ensures { result.alphas ≡ alphas }
+    {
+        Bottom { alphas }
+    }
+
+    /// The tower without products: its elements are the rational functions of k.
+    pub fn none(alloc: Global) -> Bottom<F>
+        ensures { result.alphas ≡ [] }
+    {
         Bottom {
-            constants: PhantomData,
+            alphas: Row::new(alloc),
         }
     }
 }
 
 impl<F: Field> Tower for Bottom<F> {
-    ghost use Rattle.sg_tower_theory.proofs.Formal.{none_independent};
-    ghost use Rattle.sg_bottom.specs.Functions.{functions};
+    ghost use Rattle.sg_products.specs.Readings.{laurents};
 
     type K = F;
 
-    type Elem = RatFun<F>;
+    type Elem = Laurent<RatFun<F>>;
 
-    ghost reading = { λ d v s. functions v };
+    ghost reading = { λ d v s. laurents v s.alphas };
 
     fn products(&self) -> u32 {
-        0
+        self.alphas.len() as u32
     }
 
     fn sums(&self) -> u32 {
         0
     }
 
-    fn zero(&self, alloc: Global) -> Result<RatFun<F>, Stop> {
-        let r: RatFun<F> = Field::zero(alloc)?;
+    fn zero(&self, alloc: Global) -> Result<Laurent<RatFun<F>>, Stop> {
+        let r = Laurent::zero(alloc, self.alphas.len());
         Ok(r)
     }
 
-    fn one(&self, alloc: Global) -> Result<RatFun<F>, Stop> {
-        let r: RatFun<F> = Field::one(alloc)?;
+    fn one(&self, alloc: Global) -> Result<Laurent<RatFun<F>>, Stop> {
+        let one: RatFun<F> = Field::one(alloc)?;
+        let r = Laurent::constant(alloc, self.alphas.len(), one)?;
         Ok(r)
     }
 
-    fn lift(&self, alloc: Global, r: &RatFun<F>) -> Result<RatFun<F>, Stop> {
+    fn lift(&self, alloc: Global, r: &RatFun<F>) -> Result<Laurent<RatFun<F>>, Stop> {
         let copy = r.copy(alloc)?;
-        Ok(copy)
+        let e = Laurent::constant(alloc, self.alphas.len(), copy)?;
+        Ok(e)
     }
 
-    /// It has no generator: what the word of the clause says of one that isn't there is 0.
-    fn generator(&self, alloc: Global, i: u32) -> Result<RatFun<F>, Stop>
-        ensures value { IfOk result (IsGenerator (functions F.val) i) }
-        ensures wide { IfErr result KeepsWideStep }
-    {
-        let _ = i;
-        let r: RatFun<F> = Field::zero(alloc)?;
+    fn generator(&self, alloc: Global, i: u32) -> Result<Laurent<RatFun<F>>, Stop> {
+        let r = Laurent::product(alloc, self.alphas.len(), i as usize)?;
         Ok(r)
     }
 
-    fn copy(&self, alloc: Global, e: &RatFun<F>) -> Result<RatFun<F>, Stop> {
-        let r = e.copy(alloc)?;
+    fn copy(&self, alloc: Global, e: &Laurent<RatFun<F>>) -> Result<Laurent<RatFun<F>>, Stop> {
+        let r = e.copy(alloc, self.alphas.len())?;
         Ok(r)
     }
 
-    fn shift(&self, alloc: Global, e: &RatFun<F>) -> Result<RatFun<F>, Stop> {
-        let r = e.shift_by(alloc, 1)?;
+    fn shift(&self, alloc: Global, e: &Laurent<RatFun<F>>) -> Result<Laurent<RatFun<F>>, Stop> {
+        let r = shifted(alloc, self.alphas.as_slice(), e)?;
         Ok(r)
     }
 
-    fn add(&self, alloc: Global, x: &RatFun<F>, y: &RatFun<F>) -> Result<RatFun<F>, Stop> {
-        let r = x.add(alloc, y)?;
+    fn add(
+        &self,
+        alloc: Global,
+        x: &Laurent<RatFun<F>>,
+        y: &Laurent<RatFun<F>>,
+    ) -> Result<Laurent<RatFun<F>>, Stop> {
+        let r = x.add(alloc, self.alphas.len(), y)?;
         Ok(r)
     }
 
-    fn sub(&self, alloc: Global, x: &RatFun<F>, y: &RatFun<F>) -> Result<RatFun<F>, Stop> {
-        let r = x.sub(alloc, y)?;
+    fn sub(
+        &self,
+        alloc: Global,
+        x: &Laurent<RatFun<F>>,
+        y: &Laurent<RatFun<F>>,
+    ) -> Result<Laurent<RatFun<F>>, Stop> {
+        let r = x.sub(alloc, self.alphas.len(), y)?;
         Ok(r)
     }
 
-    fn mul(&self, alloc: Global, x: &RatFun<F>, y: &RatFun<F>) -> Result<RatFun<F>, Stop> {
-        let r = x.mul(alloc, y)?;
+    fn mul(
+        &self,
+        alloc: Global,
+        x: &Laurent<RatFun<F>>,
+        y: &Laurent<RatFun<F>>,
+    ) -> Result<Laurent<RatFun<F>>, Stop> {
+        let r = x.mul(alloc, self.alphas.len(), y)?;
         Ok(r)
     }
 
-    fn scale(&self, alloc: Global, c: &F, e: &RatFun<F>) -> Result<RatFun<F>, Stop> {
+    fn scale(
+        &self,
+        alloc: Global,
+        c: &F,
+        e: &Laurent<RatFun<F>>,
+    ) -> Result<Laurent<RatFun<F>>, Stop> {
         let copy = c.copy(alloc)?;
         let k = RatFun::from_constant(alloc, copy)?;
-        let r = k.mul(alloc, e)?;
+        let r = e.scale(alloc, self.alphas.len(), &k)?;
         Ok(r)
     }
 
-    fn invert(&self, alloc: Global, e: &RatFun<F>) -> Result<Option<RatFun<F>>, Stop> {
-        if e.is_zero() {
-            return Ok(None);
-        }
-        let one: RatFun<F> = Field::one(alloc)?;
-        let r = one.div(alloc, e)?;
-        Ok(Some(r))
+    fn invert(
+        &self,
+        alloc: Global,
+        e: &Laurent<RatFun<F>>,
+    ) -> Result<Option<Laurent<RatFun<F>>>, Stop> {
+        let r = e.inverse(alloc, self.alphas.len())?;
+        Ok(r)
     }
 
-    /// One term without exponents, or none for 0.
-    fn flat(&self, alloc: Global, e: &RatFun<F>) -> Result<Row<FlatTerm<F>>, Stop> {
-        let mut terms = Row::new(alloc);
-        if e.is_zero() {
-            return Ok(terms);
+    fn is_zero(&self, e: &Laurent<RatFun<F>>) -> bool {
+        e.is_zero(self.alphas.len())
+    }
+
+    fn same(
+        &self,
+        alloc: Global,
+        x: &Laurent<RatFun<F>>,
+        y: &Laurent<RatFun<F>>,
+    ) -> Result<bool, Stop> {
+        let r = x.same(alloc, self.alphas.len(), y)?;
+        Ok(r)
+    }
+
+    fn constant_of(&self, alloc: Global, e: &Laurent<RatFun<F>>) -> Result<Option<F>, Stop> {
+        match e.constant_of(alloc, self.alphas.len())? {
+            None => Ok(None),
+            Some(r) => {
+                let c = r.constant(alloc)?;
+                Ok(c)
+            }
         }
-        let coeff = e.copy(alloc)?;
-        // the clause of this call says that e is in lowest terms
-        let _lower = e.den(alloc)?;
-        let exps = Row::new(alloc);
-        terms.push(FlatTerm { exps, coeff })?;
+    }
+
+    fn flat(&self, alloc: Global, e: &Laurent<RatFun<F>>) -> Result<Row<FlatTerm<F>>, Stop> {
+        let terms = descending_terms(alloc, self.alphas.as_slice(), e)?;
         Ok(terms)
     }
 
-    fn is_zero(&self, e: &RatFun<F>) -> bool {
-        e.is_zero()
-    }
-
-    fn same(&self, alloc: Global, x: &RatFun<F>, y: &RatFun<F>) -> Result<bool, Stop> {
-        let r = x.same(alloc, y)?;
-        Ok(r)
-    }
-
-    fn constant_of(&self, alloc: Global, e: &RatFun<F>) -> Result<Option<F>, Stop> {
-        let c = e.constant(alloc)?;
-        Ok(c)
-    }
-
-    /// The first-order equation with the factor 1 (Abramov).
+    /// Exponents by exponents (Karr 1981); without products one first-order equation (Abramov 1989).
     fn solve(
         &self,
         alloc: Global,
-        fs: &Row<RatFun<F>>,
-    ) -> Result<Row<Solution<F, RatFun<F>>>, Stop> {
-        let one: RatFun<F> = Field::one(alloc)?;
-        let rows = solve_first(alloc, &one, fs)?;
+        fs: &Row<Laurent<RatFun<F>>>,
+    ) -> Result<Row<Solution<F, Laurent<RatFun<F>>>>, Stop> {
+        if self.alphas.is_empty() {
+            let rows = antidifferences(alloc, fs)?;
+            return Ok(rows);
+        }
+        let rows = solved(alloc, self.alphas.as_slice(), fs)?;
         Ok(rows)
     }
 
-    ghost independent = { λ s. none_independent };
+    ghost independent = { λ s. s.free };
 }

@@ -1,7 +1,8 @@
-//! The tower without products and sums: the rational functions of k.
+//! The tower of products without sums: Laurent polynomials in the products over the rational functions of k.
 #![tactic(auto)]
 
 mod bottom;
+mod functions;
 
 pub use bottom::Bottom;
 

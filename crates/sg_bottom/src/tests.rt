@@ -1,8 +1,10 @@
+use crate::Bottom;
 use sg_matrix::Solution;
 use sg_num::{Field, Rat, Row, Stop};
 use sg_poly::Poly;
 use sg_ratfun::RatFun;
 use sg_rational::solve_first;
+use sg_tower::Tower;
 use std::alloc::Global;
 
 // The coefficients of a numerator and a denominator, the lowest first.
@@ -57,7 +59,7 @@ fn known(alloc: Global, a: Parts, list: &[Parts]) -> Result<Option<Basis<Rat>>, 
 }
 
 // Whether one of the pairs has constants that aren't all 0.
-fn is_closed<F: Field>(basis: &Basis<F>) -> bool {
+fn is_closed<F: Field, E: Drop>(basis: &Row<Solution<F, E>>) -> bool {
     let mut some = false;
     for s in basis.as_slice() {
         for c in s.coeffs.as_slice() {
@@ -223,4 +225,93 @@ fn telescopes_as_partial_fractions_say(rt: HostRuntime) {
             "{factors:?}"
         );
     }
+}
+
+// The tower with 2^k.
+fn powers_of_two(alloc: Global) -> Result<Bottom<Rat>, Stop> {
+    let two = RatFun::from_constant(alloc, Rat::whole(2))?;
+    let mut alphas = Row::new(alloc);
+    alphas.push(two)?;
+    Ok(Bottom::new(alphas))
+}
+
+// The first product; 1 where there is none.
+fn first<T: Tower>(alloc: Global, tower: &T) -> Result<T::Elem, Stop> {
+    if tower.products() == 0 {
+        tower.one(alloc)
+    } else {
+        tower.generator(alloc, 0)
+    }
+}
+
+// How many pairs a basis of the solutions for f times the first product has, and whether one has a constant other than 0.
+fn found<T: Tower>(alloc: Global, tower: &T, f: &RatFun<T::K>) -> Result<(usize, bool), Stop> {
+    let f = tower.lift(alloc, f)?;
+    let mut fs = Row::new(alloc);
+    fs.push(tower.mul(alloc, &f, &first(alloc, tower)?)?)?;
+    let basis = tower.solve(alloc, &fs)?;
+    Ok((basis.len(), is_closed(&basis)))
+}
+
+fn with_powers(alloc: Global, parts: Parts) -> Result<(usize, bool), Stop> {
+    let f = fraction(alloc, parts)?;
+    let tower = powers_of_two(alloc)?;
+    found(alloc, &tower, &f)
+}
+
+// 2^k and k 2^k are the differences of 2^k and (k - 2) 2^k, and 2^k/k is none.
+#[test]
+fn telescopes_with_powers_of_two(rt: HostRuntime) {
+    let cases: [(Parts, (usize, bool)); 3] = [
+        ((&[1], &[1]), (2, true)),
+        ((&[0, 1], &[1]), (2, true)),
+        ((&[1], &[0, 1]), (1, false)),
+    ];
+    for (parts, answer) in cases {
+        assert!(rt; matches!(with_powers(rt.alloc(), parts), Ok(a) if a == answer), "{parts:?}");
+    }
+}
+
+// Whether the first product has an inverse, whose shift times the shift of the product is 1, and each is one term.
+fn inverts<T: Tower>(alloc: Global, tower: &T) -> Result<bool, Stop> {
+    let x = first(alloc, tower)?;
+    match tower.invert(alloc, &x)? {
+        None => Ok(false),
+        Some(y) => {
+            let one = tower.mul(alloc, &tower.shift(alloc, &x)?, &tower.shift(alloc, &y)?)?;
+            let same = tower.same(alloc, &one, &tower.one(alloc)?)?;
+            Ok(same && tower.flat(alloc, &y)?.len() == 1)
+        }
+    }
+}
+
+// Whether x + x is 2 x, and the difference the constant 0.
+fn adds<T: Tower<K = Rat>>(alloc: Global, tower: &T) -> Result<bool, Stop> {
+    let x = tower.copy(alloc, &first(alloc, tower)?)?;
+    let sum = tower.add(alloc, &x, &x)?;
+    let double = tower.scale(alloc, &Rat::whole(2), &x)?;
+    let rest = tower.sub(alloc, &sum, &double)?;
+    let zero = tower.zero(alloc)?;
+    let same = tower.same(alloc, &rest, &zero)?;
+    Ok(same && tower.constant_of(alloc, &rest)?.is_some())
+}
+
+#[test]
+fn computes_with_powers_of_two(rt: HostRuntime) {
+    let tower = powers_of_two(rt.alloc());
+    assert!(rt; tower.is_ok());
+    if let Ok(tower) = tower {
+        assert!(rt; matches!(inverts(rt.alloc(), &tower), Ok(true)));
+        assert!(rt; matches!(adds(rt.alloc(), &tower), Ok(true)));
+    }
+}
+
+// 1/(k (k + 1)) has an antidifference, 1/k none.
+#[test]
+fn telescopes_without_products(rt: HostRuntime) {
+    let tower: Bottom<Rat> = Bottom::none(rt.alloc());
+    let f = fraction(rt.alloc(), (&[1], &[0, 1, 1]));
+    let g = fraction(rt.alloc(), (&[1], &[0, 1]));
+    assert!(rt; matches!(&f, Ok(f) if matches!(found(rt.alloc(), &tower, f), Ok((2, true)))));
+    assert!(rt; matches!(&g, Ok(g) if matches!(found(rt.alloc(), &tower, g), Ok((1, false)))));
 }

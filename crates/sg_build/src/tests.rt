@@ -1,8 +1,6 @@
-ghost use Rattle.std.specs.Prelude.{◌≡◌, [], pos, map, IfOk, IfErr};
-ghost use Rattle.sg_num.specs.Value.{number};
+ghost use Rattle.std.specs.Prelude.{◌≡◌, ◌+◌, [], length, pos, IfOk};
 ghost use Rattle.sg_spec.specs.Tree.{numeral, here, add, neg, div, power, sum_from};
 ghost use Rattle.sg_expr.specs.Tree.{tree_of};
-ghost use Rattle.sg_bottom.specs.Functions.{functions};
 ghost use Rattle.sg_build.specs.Letters.{letter, HasNoLetter};
 ghost use Rattle.sg_build.specs.Placed.{IsPlaceable};
 
@@ -12,6 +10,7 @@ use sg_expr::Expr;
 use sg_num::{Rat, Row, Stop};
 use sg_poly::Poly;
 use sg_ratfun::RatFun;
+use sg_tower::Tower;
 use std::alloc::{AllocError, Global};
 use std::test::Fail;
 
@@ -23,15 +22,28 @@ fn polynomial(alloc: Global, list: &[i128]) -> Result<Poly<Rat>, Stop> {
     Poly::from_coeffs(alloc, row)
 }
 
-/// Whether the function with these coefficients above and below, the lowest first, is expressed as this tree.
-fn is_expressed(alloc: Global, upper: &[i128], lower: &[i128], want: &Expr) -> Result<bool, Stop> {
+/// The function with these coefficients above and below, the lowest first; 0 where those below are 0.
+fn function(alloc: Global, upper: &[i128], lower: &[i128]) -> Result<RatFun<Rat>, Stop> {
     let num = polynomial(alloc, upper)?;
     let den = polynomial(alloc, lower)?;
     if den.is_zero() {
-        return Ok(false);
+        return RatFun::zero(alloc);
     }
-    let f = RatFun::new(alloc, num, den)?;
-    let t = express(alloc, &Bottom::new(), &[], &[], &f)?;
+    RatFun::new(alloc, num, den)
+}
+
+/// Whether the function is expressed as this tree.
+fn is_expressed<T: Tower<K = Rat>>(
+    alloc: Global,
+    tower: &T,
+    f: &RatFun<Rat>,
+    want: &Expr,
+) -> Result<bool, Stop>
+    requires no_products { 0 ≡ length (T.reading T.K.vars T.K.val tower.now).formal.products }
+    requires no_sums { 0 ≡ (T.reading T.K.vars T.K.val tower.now).formal.sums }
+{
+    let e = tower.lift(alloc, f)?;
+    let t = express(alloc, tower, &[], &[], &e)?;
     Ok(t.same(want))
 }
 
@@ -41,7 +53,9 @@ fn expresses_a_function(rt: HostRuntime) -> Result<(), Fail> {
     let alloc = rt.alloc();
     let three = Box::new(alloc, Expr::Num(3))?;
     let inner = Box::new(alloc, Expr::Div(three, Box::new(alloc, Expr::Here)?))?;
-    assert!(rt; is_expressed(alloc, &[6], &[0, -2], &Expr::Neg(inner))?);
+    let f = function(alloc, &[6], &[0, -2])?;
+    let tower: Bottom<Rat> = Bottom::none(alloc);
+    assert!(rt; is_expressed(alloc, &tower, &f, &Expr::Neg(inner))?);
     let parameter: Option<Rat> = Letters::param(alloc)?;
     assert!(rt; parameter.is_none());
     Ok(())
@@ -83,14 +97,17 @@ fn evaluates_expressions(rt: HostRuntime) -> Result<(), Fail> {
     Ok(())
 }
 
-/// The value of 1/k.
-fn inverse_at(alloc: Global, k: i64) -> Result<Option<Rat>, Stop> {
-    let den = polynomial(alloc, &[0, 1])?;
-    if den.is_zero() {
-        return Ok(None);
-    }
-    let f = RatFun::new(alloc, polynomial(alloc, &[1])?, den)?;
-    let v = elem_at(alloc, &Bottom::new(), &f, k, &[])?;
+/// The value of the function.
+fn value_at<T: Tower<K = Rat>>(
+    alloc: Global,
+    tower: &T,
+    f: &RatFun<Rat>,
+    k: i64,
+) -> Result<Option<Rat>, Stop>
+    requires no_generators { 0 ≡ length (T.reading T.K.vars T.K.val tower.now).formal.products + (T.reading T.K.vars T.K.val tower.now).formal.sums }
+{
+    let e = tower.lift(alloc, f)?;
+    let v = elem_at(alloc, tower, &e, k, &[])?;
     Ok(v)
 }
 
@@ -98,8 +115,10 @@ fn inverse_at(alloc: Global, k: i64) -> Result<Option<Rat>, Stop> {
 #[test]
 fn evaluates_an_element(rt: HostRuntime) -> Result<(), Fail> {
     let alloc = rt.alloc();
-    assert_eq!(rt; inverse_at(alloc, 2)?, Rat::new(1, 2));
-    assert_eq!(rt; inverse_at(alloc, 0)?, None);
+    let inverse = function(alloc, &[1], &[0, 1])?;
+    let tower: Bottom<Rat> = Bottom::none(alloc);
+    assert_eq!(rt; value_at(alloc, &tower, &inverse, 2)?, Rat::new(1, 2));
+    assert_eq!(rt; value_at(alloc, &tower, &inverse, 0)?, None);
     Ok(())
 }
 
@@ -115,23 +134,26 @@ fn quotient(alloc: Global) -> Result<Expr, AllocError>
     Ok(Expr::Div(above, below))
 }
 
-/// The rational function of an expression without sums and products.
-fn placed(alloc: Global, e: &Expr) -> Result<RatFun<Rat>, Stop>
-    requires { IsPlaceable (letter 0) (functions number) [] [] [] (tree_of e.now) }
+/// The expression of the element that an expression without sums and products stands for.
+fn expressed_again<T: Tower<K = Rat>>(alloc: Global, tower: &T, e: &Expr) -> Result<Expr, Stop>
+    requires no_products { 0 ≡ length (T.reading T.K.vars T.K.val tower.now).formal.products }
+    requires no_sums { 0 ≡ (T.reading T.K.vars T.K.val tower.now).formal.sums }
+    requires placeable { IsPlaceable (letter 0) (T.reading T.K.vars T.K.val tower.now) [] [] [] (tree_of e.now) }
 {
-    let x = place(alloc, &Bottom::new(), &[], &[], &[], e)?;
-    Ok(x)
+    let x = place(alloc, tower, &[], &[], &[], e)?;
+    let t = express(alloc, tower, &[], &[], &x)?;
+    Ok(t)
 }
 
-/// (k^2-1)/(k+1) is k-1, which is expressed so, and placed again.
+/// (k^2-1)/(k+1) is k-1.
 #[test]
 fn places_a_quotient(rt: HostRuntime) -> Result<(), Fail> {
     let alloc = rt.alloc();
     let e = quotient(alloc)?;
-    let x = placed(alloc, &e)?;
+    let tower: Bottom<Rat> = Bottom::none(alloc);
+    let t = expressed_again(alloc, &tower, &e)?;
     let less = Box::new(alloc, Expr::Neg(Box::new(alloc, Expr::Num(1))?))?;
     let want = Expr::Add(Box::new(alloc, Expr::Here)?, less);
-    let t = express(alloc, &Bottom::new(), &[], &[], &x)?;
     assert!(rt; t.same(&want));
     Ok(())
 }

@@ -28,7 +28,7 @@ pub fn with_tower<F: Letters, J: Job<F>>(
     ensures done { IfOk result (J.done job facts.now) }
     ensures wide { IfErr result KeepsWideStep }
 {
-    let tower: Bottom<F> = Bottom::new();
+    let tower: Bottom<F> = Bottom::none(alloc);
     let known = Row::new(alloc);
     let places = Row::new(alloc);
     match facts.sums.len() {

@@ -5,7 +5,7 @@
 --   empty-told, sums-told       the lines for one that does; told-answer: what they are for the expression with its quotients
 --   told-count, some-sums, none-sums    as many are told as there are sums; there are some, or none
 --   examined-few, examined-form, examined-kept, examined-test, examined-told      the expression that is examined, and its replies
-use Rattle.std.proofs.Common.{◌≡◌, ℕ, zero, suc, ◌+◌, ◌<◌, ◌==◌, Bool, true, false, ℤ, negsuc, List, [], ◌∷◌, ◌++◌, length, take, drop, map, get_or, codes, Option, Some, None, refl, sym, ap, ap₂, subst, ◌∙◌, ◌⊎◌, inl, inr, append_assoc, append-nil, add-one, arith}
+use Rattle.std.proofs.Common.{◌≡◌, ℕ, zero, suc, ◌+◌, ◌<◌, ◌==◌, Bool, true, false, ℤ, negsuc, List, [], ◌∷◌, ◌++◌, length, take, drop, map, get_or, codes, Option, None, refl, sym, ap, ap₂, subst, ◌∙◌, ◌⊎◌, inl, inr, append_assoc, append-nil, add-one, arith}
 use Rattle.std.specs.Prelude.{All}
 use Rattle.std.proofs.Math.Seq.{take-suc, take-length}
 use Rattle.std.proofs.lemmas.Bool.Decides.{nat_tests}
@@ -17,7 +17,7 @@ use Rattle.sg_limits.specs.declared.inspection.Facts.{Facts}
 use Rattle.sg_spec.specs.Faults.{with_item}
 use Rattle.sg_spec.specs.Generators.{all_sums, distinct, sums, start}
 use Rattle.sg_spec.specs.Limits.{counted}
-use Rattle.sg_spec.specs.Parts.{Part, parts, anywhere}
+use Rattle.sg_spec.specs.Parts.{Part}
 use Rattle.sg_spec.specs.Printing.{InForm}
 use Rattle.sg_spec.specs.Tree.{Tree}
 use Rattle.sg_written.proofs.Plain.{HasNoProduct}
@@ -36,7 +36,7 @@ use Rattle.sg_top.specs.Taking.{IsFirstLater, AreTested, IsStopped, IsTestReply,
 use Rattle.sg_top.specs.declared.status.Status.{Status}
 use Rattle.sg_top.specs.declared.status.Status.TheVariants.{Done}
 use Rattle.sg_top.proofs.Items.{all-of}
-use Rattle.sg_top.proofs.Undivided.{all_sums-undivided, all_prods-undivided, sums-undivided, start-undivided, counted-undivided, form-undivided, parts-undivided}
+use Rattle.sg_top.proofs.Undivided.{all_prods-undivided, sums-undivided, start-undivided, counted-undivided, form-undivided, parts-undivided}
 
 -- ---- Lines
 

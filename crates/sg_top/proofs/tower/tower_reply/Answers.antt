@@ -1,7 +1,7 @@
 use Rattle.std.proofs.Common.{map}
 use Rattle.sg_expr.specs.Tree.{tree_of}
 use Rattle.sg_top.proofs.Items.{lone}
-use Rattle.sg_top.proofs.Telling.{examined-few, examined-form, examined-kept, examined-test, examined-told}
+use Rattle.sg_top.proofs.Telling.{examined-form, examined-kept, examined-test, examined-told}
 use Rattle.sg_top.proofs.tower.tower_reply.Goals as goal
 
 pub tested-requires-clause-form : goal.tested-requires-clause-form

@@ -1,6 +1,5 @@
-use crate::{descending_terms, shifted, solved};
+use crate::{descending_terms, shifted};
 use sg_laurent::{Laurent, Term};
-use sg_matrix::Solution;
 use sg_num::{Field, Rat, Row, Stop};
 use sg_poly::Poly;
 use sg_ratfun::RatFun;
@@ -93,38 +92,4 @@ fn exponents_of(alloc: Global) -> Result<Row<i128>, Stop> {
 fn lists_terms(rt: HostRuntime) {
     let row = exponents_of(rt.alloc());
     assert!(rt; matches!(&row, Ok(r) if r.as_slice() == [1, -1].as_slice()));
-}
-
-// The solutions for the right side 2 k, without products.
-fn sums_of_even_numbers(alloc: Global) -> Result<Row<Solution<Rat, Laurent<RatFun<Rat>>>>, Stop> {
-    let f = Laurent::constant(alloc, 0, polynomial(alloc, &[0, 2])?)?;
-    let mut fs = Row::new(alloc);
-    fs.push(f)?;
-    let rows = solved(alloc, &[], &fs)?;
-    Ok(rows)
-}
-
-// Whether the element is c (k^2 - k) and a constant.
-fn is_known(alloc: Global, s: &Solution<Rat, Laurent<RatFun<Rat>>>) -> Result<bool, Stop> {
-    if s.coeffs.is_empty() {
-        return Ok(false);
-    }
-    let c: RatFun<Rat> = RatFun::from_rat(alloc, *s.coeffs.get(0))?;
-    let part = polynomial(alloc, &[0, -1, 1])?.mul(alloc, &c)?;
-    let g = s.value.coefficient(alloc, 0, &[])?;
-    let rest = g.sub(alloc, &part)?;
-    let constant = rest.constant(alloc)?;
-    Ok(constant.is_some())
-}
-
-// 0 + 2 + .. + 2 (k - 1) = k^2 - k
-#[test]
-fn telescopes_even_numbers(rt: HostRuntime) {
-    let rows = sums_of_even_numbers(rt.alloc());
-    assert!(rt; matches!(&rows, Ok(r) if r.len() == 2));
-    if let Ok(rows) = rows {
-        for s in rows.as_slice() {
-            assert!(rt; matches!(is_known(rt.alloc(), s), Ok(true)));
-        }
-    }
 }

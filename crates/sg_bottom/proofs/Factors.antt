@@ -4,7 +4,7 @@
 --   none_free       and nothing is asked of none
 --   none_then       what follows where there is no value
 --   empty_is        a list that was found to be empty
-use Rattle.std.proofs.Common.{◌≡◌, ℕ, suc, ◌==◌, ◌∙◌, refl, sym, Bool, true, Option, Some, None, IfNone, List, [], ◌∷◌, map, length, arith}
+use Rattle.std.proofs.Common.{◌≡◌, ℕ, suc, ◌==◌, ◌∙◌, refl, sym, Bool, true, Option, Some, None, IfNone, inl, inr, List, [], ◌∷◌, map, length, arith}
 use Rattle.sg_algebra.specs.Coefficients.{Each}
 use Rattle.sg_algebra.proofs.Value.{Value, zero_value}
 use Rattle.sg_tower_theory.proofs.Formal.{IndependentFactors, none_independent}

@@ -159,7 +159,8 @@ impl<F: Field> Tower for Bottom<F> {
     }
 
     fn constant_of(&self, alloc: Global, e: &Laurent<RatFun<F>>) -> Result<Option<F>, Stop> {
-        match e.constant_of(alloc, self.alphas.len())? {
+        let function = e.constant_of(alloc, self.alphas.len())?;
+        match function {
             None => Ok(None),
             Some(r) => {
                 let c = r.constant(alloc)?;

@@ -12,11 +12,11 @@ returns-then-is_empty-clause-sound g c = rw (empty_is c.args.self.now.alphas c.i
 pub returns-then-is_empty-clause-complete : goal.returns-then-is_empty-clause-complete
 returns-then-is_empty-clause-complete g c = rw (empty_is c.args.self.now.alphas c.is_empty.result c.if-is_empty.true c.is_empty.ensures) c.in_ok-rows.ensures.complete
 
-pub solved-rows-requires-clause-some : goal.solved-rows-requires-clause-some
-solved-rows-requires-clause-some g c = rw c.as_slice.ensures (nonzero_each g.F.Field.val c.args.self.now.alphas c.args.self.now.nonzero)
+pub solved-requires-clause-some : goal.solved-requires-clause-some
+solved-requires-clause-some g c = rw c.as_slice.ensures (nonzero_each g.F.Field.val c.args.self.now.alphas c.args.self.now.nonzero)
 
-pub solved-rows-requires-clause-free : goal.solved-rows-requires-clause-free
-solved-rows-requires-clause-free g c = rw c.as_slice.ensures c.args.self.now.free
+pub solved-requires-clause-free : goal.solved-requires-clause-free
+solved-requires-clause-free g c = rw c.as_slice.ensures c.args.self.now.free
 
 pub returns-clause-sound : goal.returns-clause-sound
 returns-clause-sound g c = rw c.as_slice.ensures at c.in_ok-rows-2.ensures.sound

@@ -1,4 +1,4 @@
-ghost use Rattle.std.specs.Prelude.{◌≡◌, ◌<◌, suc, length, map, drop, IfOk, IfErr};
+ghost use Rattle.std.specs.Prelude.{◌≡◌, ◌<◌, suc, [], length, map, drop, IfOk, IfErr};
 ghost use Rattle.sg_algebra.specs.Coefficients.{Each};
 ghost use Rattle.sg_algebra.proofs.Place.{Pairwise};
 ghost use Rattle.sg_algebra.proofs.Value.{zero_value};
@@ -35,12 +35,32 @@ pub fn solved<F: Field>(
     ensures wide { IfErr result KeepsWideStep }
 {
     let es = supports(alloc, alphas, fs)?;
-    let mut rows = start(alloc, alphas, fs)?;
-    for i in 0..es.len() {
-        rows = lowered(alloc, alphas, fs, &es, i, &rows)?;
-    }
-    let answer = finished(alloc, rows)?;
+    let rows = start(alloc, alphas, fs)?;
+    let last = all_lowered(alloc, alphas, fs, &es, rows)?;
+    let answer = finished(alloc, last)?;
     Ok(answer)
+}
+
+// The rows that leave nothing, from those that leave nothing outside the lists of exponents: one list after the other.
+fn all_lowered<F: Field>(
+    alloc: Global,
+    alphas: &[RatFun<F>],
+    fs: &Row<Laurent<RatFun<F>>>,
+    es: &Row<Row<i128>>,
+    rows: Row<Partial<F>>,
+) -> Result<Row<Partial<F>>, Stop>
+    requires some { Each (λ a. ¬ (ratio F.val a ≡ zero_value)) alphas.now }
+    requires free { IndependentFactors (map (ratio F.val) alphas.now) }
+    requires fit { Each (λ e. length e ≡ length alphas.now) es.now }
+    requires before { State F.val alphas.now fs.now es.now rows }
+    ensures value { IfOk result (State F.val alphas.now fs.now []) }
+    ensures wide { IfErr result KeepsWideStep }
+{
+    let mut last = rows;
+    for i in 0..es.len() {
+        last = lowered(alloc, alphas, fs, es, i, &last)?;
+    }
+    Ok(last)
 }
 
 // The rows without the exponents at `i`, from those without the exponents before: the coefficients at x^e solve a first-order

@@ -68,9 +68,15 @@ def misquoted(file, block):
 
 
 def definitions(lines):
-    """The lines of each top-level definition by its name: signature, cases, fields, constructors."""
-    found, name = {}, None
+    """The lines of each definition by its name: signature, cases, fields, constructors. Those in a module with parameters count too."""
+    found, name, inside = {}, None, False
     for line in lines:
+        if re.match(r"module _ .* where$", line):
+            inside, name = True, None
+            continue
+        if inside and line.strip():
+            inside = line.startswith("  ")
+            line = line.removeprefix("  ")
         head = re.match(r"(?:abbrev |unfoldable )*(?:pub )?(?:record |data )?([^\s:({]+)", line)
         if not line.strip() or line.startswith("--"):
             continue

@@ -268,7 +268,10 @@ fn telescopes_with_powers_of_two(rt: HostRuntime) {
         ((&[1], &[0, 1]), (1, false)),
     ];
     for (parts, answer) in cases {
-        assert!(rt; matches!(with_powers(rt.alloc(), parts), Ok(a) if a == answer), "{parts:?}");
+        assert!(rt;
+            matches!(with_powers(rt.alloc(), parts), Ok(a) if a == answer),
+            "{parts:?}"
+        );
     }
 }
 

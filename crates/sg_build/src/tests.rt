@@ -7,7 +7,7 @@ ghost use Rattle.sg_build.specs.Placed.{IsPlaceable};
 use crate::{Letters, elem_at, express, place, value_in};
 use sg_bottom::Bottom;
 use sg_expr::Expr;
-use sg_num::{Rat, Row, Stop};
+use sg_num::{Field, Rat, Row, Stop};
 use sg_poly::Poly;
 use sg_ratfun::RatFun;
 use sg_tower::Tower;

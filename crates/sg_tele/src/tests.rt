@@ -97,11 +97,7 @@ fn telescopes<T: Tower<K = Rat>>(
 }
 
 // Whether f over k has no antidifference.
-fn fails_over_k<T: Tower<K = Rat>>(
-    alloc: Global,
-    tower: &T,
-    f: &[Monomial],
-) -> Result<bool, Stop> {
+fn fails_over_k<T: Tower<K = Rat>>(alloc: Global, tower: &T, f: &[Monomial]) -> Result<bool, Stop> {
     let r = tower.lift(alloc, &inverse(alloc, 0)?)?;
     let quotient = tower.mul(alloc, &r, &element(alloc, tower, f)?)?;
     Ok(telescope(alloc, tower, &quotient)?.is_none())
@@ -189,7 +185,10 @@ fn telescopes_with_nested_sums(rt: HostRuntime) {
     assert!(rt; matches!(&tower, Ok(Some(_))));
     if let Ok(Some(tower)) = tower {
         for (f, g) in cases {
-            assert!(rt; matches!(telescopes(rt.alloc(), &tower, f, g), Ok(true)), "{f:?}");
+            assert!(rt;
+                matches!(telescopes(rt.alloc(), &tower, f, g), Ok(true)),
+                "{f:?}"
+            );
         }
     }
 }

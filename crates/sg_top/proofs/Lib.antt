@@ -7,5 +7,7 @@ pub mod Parted
 pub mod Replies
 pub mod Sampling
 pub mod Sending
-pub mod Texts
 pub mod Simplifying
+pub mod Telling
+pub mod Texts
+pub mod Undivided

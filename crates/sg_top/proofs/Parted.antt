@@ -20,15 +20,15 @@ use Rattle.sg_top.specs.Taking.{IsRational}
 
 -- ---- Without sums and products
 
-left_empty : {A : Type 0} (a b : List A) → a ++ b ≡ [] → a ≡ []
+pub left_empty : {A : Type 0} (a b : List A) → a ++ b ≡ [] → a ≡ []
 left_empty [] b h = refl
 left_empty (x ∷ a) b h = cc
 
-right_empty : {A : Type 0} (a b : List A) → a ++ b ≡ [] → b ≡ []
+pub right_empty : {A : Type 0} (a b : List A) → a ++ b ≡ [] → b ≡ []
 right_empty [] b h = h
 right_empty (x ∷ a) b h = cc
 
-not_empty : {A : Type 0} (a : List A) (x : A) → a ++ (x ∷ []) ≡ [] → ⊥
+pub not_empty : {A : Type 0} (a : List A) (x : A) → a ++ (x ∷ []) ≡ [] → ⊥
 not_empty [] x h = cc
 not_empty (y ∷ a) x h = cc
 

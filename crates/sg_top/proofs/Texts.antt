@@ -16,7 +16,7 @@ use Rattle.sg_spec.specs.Tree.{Tree}
 use Rattle.sg_text.proofs.PrintForms.{read_form}
 use Rattle.sg_words.specs.Words.{IsCommand, HasTexts}
 use Rattle.sg_words.specs.declared.asked.Command.{Command}
-use Rattle.sg_words.specs.declared.asked.Command.TheVariants.{Sum, Simplify, Check, Value, ValueAtParameter}
+use Rattle.sg_words.specs.declared.asked.Command.TheVariants.{Sum, Tower, Simplify, Check, Value, ValueAtParameter}
 use Rattle.sg_top.specs.Lines.{refusal_words, item_line}
 use Rattle.sg_top.specs.Stages.{input_bounds, letters_of, IsReadAt, AreReadFrom, AreRead}
 use Rattle.sg_top.specs.Refusals.{IsRefusedAt, IsTextRefusal}
@@ -83,6 +83,7 @@ pub limited : (words : List (List ℕ)) (c : Command) (texts : List (List ℕ)) 
 limited [] (Sum a) texts i = absurd i.0
 limited (w ∷ []) (Sum a) texts i = absurd i.0.1
 limited (w ∷ (v ∷ vs)) (Sum a) texts i = (i.0.1.0.not_low, i.0.1.0.not_high)
+limited words Tower texts i = tt
 limited [] (Simplify a) texts i = absurd i.0
 limited (w ∷ []) (Simplify a) texts i = absurd i.0.1
 limited (w ∷ (v ∷ vs)) (Simplify a) texts i = (i.0.1.0.not_low, i.0.1.0.not_high)
@@ -94,6 +95,7 @@ limited words (ValueAtParameter n k) texts i = tt
 
 pub has-texts : (words : List (List ℕ)) (c : Command) (texts : List (List ℕ)) → IsCommand words c texts → HasTexts c (length texts)
 has-texts words (Sum a) texts i = i.1
+has-texts words Tower texts i = i.1
 has-texts words (Simplify a) texts i = i.1
 has-texts words (Check a) texts i = i.1
 has-texts words (Value k) texts i = i.1
@@ -101,6 +103,7 @@ has-texts words (ValueAtParameter n k) texts i = i.1
 
 pub some-texts : (c : Command) (n : ℕ) → HasTexts c n → 0 < n
 some-texts (Sum a) n h = omega arith
+some-texts Tower n h = omega arith
 some-texts (Simplify a) n h = omega arith
 some-texts (Check a) n h = omega arith
 some-texts (Value k) n h = omega arith
@@ -108,6 +111,7 @@ some-texts (ValueAtParameter m k) n h = omega arith
 
 pub few-texts : (c : Command) (n : ℕ) → HasTexts c n → n ≤ 16
 few-texts (Sum a) n h = omega arith
+few-texts Tower n h = omega arith
 few-texts (Simplify a) n h = omega arith
 few-texts (Check a) n h = omega arith
 few-texts (Value k) n h = omega arith

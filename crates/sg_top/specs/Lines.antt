@@ -2,6 +2,9 @@
 --   closed_line     `closed <h> from <s>`
 --   form_line       `<h> from <s>`
 --   yes_line        `yes from <s>`
+--   free_line       `free <g>`: a new sum; equal_line: `<g> = <h> from <s>`
+--   standing_line   the one of these for a sum and the expression that it is, where there is one
+--   tower_lines     so for each of some sums in turn; `empty` where there is none
 --   listed          the texts of products and sums, each after a comma and a blank
 --   none_line       `none over k, <products>, <sums>`
 --   wide_line       `wide <op> <left> <right>`
@@ -13,7 +16,7 @@
 --   scope_text      a tree in the letters of a scope at a depth
 --   part_text       a part of an expression in those of its scope
 --   pole_line       the part of a divisor or of a product's body that is 0, or may be too far out, and where it is 0
-use Rattle.std.specs.Prelude.{ℕ, ◌==◌, ◌%◌, List, [], ◌∷◌, ◌++◌, ℤ, codes, cond, decimal}
+use Rattle.std.specs.Prelude.{ℕ, ◌==◌, ◌%◌, List, [], ◌∷◌, ◌++◌, Option, Some, None, ℤ, codes, cond, decimal}
 use Rattle.std.specs.Fmt.{signed_decimal}
 use Rattle.sg_spec.specs.Reading.{Kind, numeral_fault, exponent_fault, unbound, form, Refusal, too_long, too_deep, no_text, faulty}
 use Rattle.sg_spec.specs.Limits.{CountFault, too_many_nodes, too_steep, too_many_sums, too_many_products}
@@ -35,6 +38,25 @@ form_line h start = h ++ codes " from " ++ signed_decimal start ++ codes "\n"
 
 abbrev pub yes_line : ℤ → List ℕ
 yes_line start = codes "yes from " ++ signed_decimal start ++ codes "\n"
+
+abbrev pub free_line : List ℕ → List ℕ
+free_line g = codes "free " ++ g ++ codes "\n"
+
+abbrev pub equal_line : List ℕ → List ℕ → ℤ → List ℕ
+equal_line g h start = g ++ codes " = " ++ h ++ codes " from " ++ signed_decimal start ++ codes "\n"
+
+abbrev pub standing_line : ℤ → Tree → Option Tree → List ℕ
+standing_line start g None = free_line (printed (codes "k") g)
+standing_line start g (Some h) = equal_line (printed (codes "k") g) (printed (codes "k") h) start
+
+abbrev pub standing_lines : ℤ → List Tree → List (Option Tree) → List ℕ
+standing_lines start [] os = []
+standing_lines start (g ∷ gs) [] = []
+standing_lines start (g ∷ gs) (o ∷ os) = standing_line start g o ++ standing_lines start gs os
+
+abbrev pub tower_lines : ℤ → List Tree → List (Option Tree) → List ℕ
+tower_lines start [] os = codes "empty\n"
+tower_lines start (g ∷ gs) os = standing_lines start (g ∷ gs) os
 
 abbrev pub listed : List Tree → List ℕ
 listed [] = []

@@ -1,14 +1,18 @@
 -- What an answer says of the expressions of a command's texts, once no refusal touches them.
 --   IsClosedLine      `closed <h> from <s>`: h is a canonical closed form, whose text is the one that is printed for it
 --   IsNoneLine        `none over k, <sums>`: no expression over the sums of the texts, which may stand in divisors, telescopes f, from no point on
+--   AreTowerLines     a line a sum of f, in the order of the sums: `free <g>` exactly where no expression over the sums before, which may stand in
+--                     divisors, agrees with g from any point on; else `<g> = <h> from <s>`: h is g in canonical form over new sums before, from s on
 --   IsSimplifiedLine  `<h> from <s>`: h is the simplest form of f over its sums, and so the one that all expressions have that agree with f from some point on
 --   IsYesLine         `yes from <s>`: g telescopes f from s on; IsNoLine: `no`: beyond every point it fails somewhere
 --   IsFractionLine    the value of an expression, in lowest terms
 --   IsNoValueLine     `no value`: it has none
 --   IsDefined         the defined answer; a line a command
 --   IsWideStep        what is known of a step that doesn't fit; a line a command that knows more than this
---   IsNarrow          no step is wide: a polynomial of degree at most 1 with small coefficients, from a small limit on
-use Rattle.std.specs.Prelude.{◌≡◌, ℕ, ◌≤◌, List, [], ◌∷◌, ◌++◌, ℤ, pos, unsigned_abs, codes, Option, Some, None, ◌⊎◌}
+--   IsNarrow          no step is wide: a polynomial of degree at most 1 with small coefficients is summed from a small limit on; or `tower` asks for the sums
+--                     of an expression without any
+use Rattle.std.specs.Prelude.{◌≡◌, ℕ, ◌≤◌, List, [], ◌∷◌, ◌++◌, ℤ, pos, negsuc, unsigned_abs, codes, Option, Some, None, ◌⊎◌}
+use Rattle.sg_algebra.specs.Coefficients.{Each}
 use Rattle.sg_spec.specs.Fraction.{Fraction}
 use Rattle.sg_spec.specs.Tree.{Tree}
 use Rattle.sg_spec.specs.Value.{val, SameValue}
@@ -16,7 +20,7 @@ use Rattle.sg_spec.specs.Steps.{steps, IsFirstMisfit}
 use Rattle.sg_spec.specs.Reading.{Reads}
 use Rattle.sg_spec.specs.Limits.{degrees}
 use Rattle.sg_spec.specs.Polynomials.{IsPolynomial, weight}
-use Rattle.sg_spec.specs.Generators.{Over, sums, prods, start}
+use Rattle.sg_spec.specs.Generators.{Over, all_sums, sums, prods, start}
 use Rattle.sg_spec.specs.Canonical.{IsCanonicalOver}
 use Rattle.sg_spec.specs.Closed.{Closed}
 use Rattle.sg_spec.specs.Telescoping.{Tele}
@@ -28,11 +32,11 @@ use Rattle.sg_text.specs.PrintedText.{printed}
 use Rattle.sg_text.specs.RationalText.{rational_text}
 use Rattle.sg_value.specs.Answer.{step_of}
 use Rattle.sg_words.specs.declared.asked.Command.{Command}
-use Rattle.sg_words.specs.declared.asked.Command.TheVariants.{Sum, Simplify, Check, Value, ValueAtParameter}
-use Rattle.sg_forms_theory.specs.Sums.{IsSimplest}
+use Rattle.sg_words.specs.declared.asked.Command.TheVariants.{Sum, Tower, Simplify, Check, Value, ValueAtParameter}
+use Rattle.sg_forms_theory.specs.Sums.{AreStandings, IsSimplest}
 use Rattle.sg_forms_theory.specs.Checks.{TelescopesFrom, FailsBeyond}
 use Rattle.sg_forms.specs.Wholes.{IsWhole}
-use Rattle.sg_top.specs.Lines.{closed_line, none_line, form_line, yes_line}
+use Rattle.sg_top.specs.Lines.{closed_line, none_line, tower_lines, form_line, yes_line}
 use Rattle.sg_top.specs.declared.status.Status.{Status}
 use Rattle.sg_top.specs.declared.status.Status.TheVariants.{Done, No}
 
@@ -49,6 +53,18 @@ pub record IsNoneLine (f : Tree) (others : List Tree) (status : Status) (out : L
   pub status_is : status ≡ No
   pub none : (e : Tree) → Over (sums (f ∷ others)) e → ¬ Tele e f
   pub is : out ≡ none_line (prods (f ∷ others) ++ sums (f ∷ others))
+
+-- the expression that a sum is, where there is one, is what its text reads as
+abbrev pub IsReadBack : Option Tree → Type 0
+IsReadBack None = Unit {0}
+IsReadBack (Some h) = Reads (printed (codes "k") h) (codes "k") h
+
+pub record AreTowerLines (f : Tree) (status : Status) (out : List ℕ) : Type 0 where
+  pub status_is : status ≡ Done
+  pub standings : List (Option Tree)
+  pub are : AreStandings IsWhole (start (f ∷ []) (negsuc 1000)) (sums (f ∷ [])) standings
+  pub read_back : Each IsReadBack standings
+  pub is : out ≡ tower_lines (start (f ∷ []) (negsuc 1000)) (sums (f ∷ [])) standings
 
 pub record IsSimplifiedLine (a : ℤ) (f : Tree) (status : Status) (out : List ℕ) : Type 0 where
   pub status_is : status ≡ Done
@@ -83,6 +99,10 @@ abbrev pub IsSumOutput : ℤ → List Tree → Status → List ℕ → Type 0
 IsSumOutput a [] status out = ⊥
 IsSumOutput a (f ∷ others) status out = IsClosedLine a f others status out ⊎ IsNoneLine f others status out
 
+abbrev pub IsTowerOutput : List Tree → Status → List ℕ → Type 0
+IsTowerOutput (f ∷ []) status out = AreTowerLines f status out
+IsTowerOutput es status out = ⊥
+
 abbrev pub IsSimplifyOutput : ℤ → List Tree → Status → List ℕ → Type 0
 IsSimplifyOutput a (f ∷ []) status out = IsSimplifiedLine a f status out
 IsSimplifyOutput a es status out = ⊥
@@ -97,6 +117,7 @@ IsValueOutput n k es status out = ⊥
 
 abbrev pub IsDefined : Command → List Tree → Status → List ℕ → Type 0
 IsDefined (Sum a) es status out = IsSumOutput a es status out
+IsDefined Tower es status out = IsTowerOutput es status out
 IsDefined (Simplify a) es status out = IsSimplifyOutput a es status out
 IsDefined (Check a) es status out = IsCheckOutput a es status out
 IsDefined (Value k) es status out = IsValueOutput (pos 0) k es status out
@@ -114,4 +135,5 @@ IsWideStep c es step = IsTooWide step
 
 abbrev pub IsNarrow : Command → List Tree → Type 0
 IsNarrow (Sum a) (f ∷ []) = IsPolynomial f × ((degrees f).variable ≤ 1) × (weight f ≤ 65536) × (unsigned_abs a ≤ 64)
+IsNarrow Tower (f ∷ []) = all_sums f ≡ []
 IsNarrow c es = ⊥

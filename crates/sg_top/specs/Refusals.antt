@@ -14,7 +14,7 @@ use Rattle.sg_spec.specs.Limits.{CountFault, counted}
 use Rattle.sg_spec.specs.Faults.{parts_of, PoleFault, IsPoleFault, AreSpared, Among, IsHeavyNumbered}
 use Rattle.sg_words.specs.declared.asked.Command.{Command}
 use Rattle.sg_top.specs.Lines.{item_line, refusal_words, count_line, pole_line}
-use Rattle.sg_top.specs.Stages.{input_bounds, letters_of, lower_of, MayStand, AreRead, IsTaken}
+use Rattle.sg_top.specs.Stages.{input_bounds, letters_of, lower_of, examined, MayStand, AreRead, IsTaken}
 
 pub record IsMisplaced (c : Command) (item : ℕ) (text : List ℕ) (refusal : Refusal) : Type 0 where
   pub expression : Tree
@@ -52,11 +52,11 @@ pub record IsLaterRefusal (c : Command) (es : List Tree) (out : List ℕ) : Type
 
 pub record IsPoleRefusal (c : Command) (es : List Tree) (out : List ℕ) : Type 0 where
   pub fault : PoleFault
-  pub cause : IsPoleFault (parts_of (lower_of c) es) fault
+  pub cause : IsPoleFault (parts_of (lower_of c) (examined c es)) fault
   pub is : out ≡ pole_line (letters_of c) fault
 
 abbrev pub IsSpared : Command → List Tree → Type 0
-IsSpared c es = AreSpared (parts_of (lower_of c) es)
+IsSpared c es = AreSpared (parts_of (lower_of c) (examined c es))
 
 abbrev pub HasHeavyPart : Command → List Tree → Type 0
-HasHeavyPart c es = Among IsHeavyNumbered (parts_of (lower_of c) es)
+HasHeavyPart c es = Among IsHeavyNumbered (parts_of (lower_of c) (examined c es))

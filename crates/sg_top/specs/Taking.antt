@@ -9,6 +9,7 @@
 --   AreAdmitted    expressions that pass all tests of `sum`, with these facts; they are none of those for which no step is wide
 --   AreTested      expressions without products, no part of whose divisors is 0, of which these are the facts
 --   IsTestReply    the reply where they aren't: the line of the first with a product, or what the search for poles answers
+--   IsToldReply    the lines of what the sums are over those before them; or a step that doesn't fit, where there is a sum
 --   IsStopped      the reply of a step that doesn't fit
 --   IsPoleCause    what the search for poles tells once the counted limits are kept
 --   IsPoleReply    its reply: the line of a refusal; or a step that doesn't fit, where a part is heavy
@@ -19,7 +20,7 @@ use Rattle.std.specs.Prelude.{◌≡◌, ℕ, ◌+◌, List, [], ◌∷◌, ◌+
 use Rattle.sg_spec.specs.Tree.{Tree}
 use Rattle.sg_spec.specs.Steps.{steps, IsFirstMisfit}
 use Rattle.sg_algebra.specs.Coefficients.{Each}
-use Rattle.sg_spec.specs.Generators.{all_sums, all_prods}
+use Rattle.sg_spec.specs.Generators.{all_sums, all_prods, sums}
 use Rattle.sg_spec.specs.Limits.{counted}
 use Rattle.sg_spec.specs.Printing.{has_parameter, InForm}
 use Rattle.sg_limits.specs.Counts.{IsFault, AreFacts}
@@ -33,12 +34,12 @@ use Rattle.sg_text.specs.RationalText.{rational_text}
 use Rattle.sg_expr.specs.Tree.{tree_of}
 use Rattle.sg_value.specs.Answer.{step_of}
 use Rattle.sg_words.specs.declared.asked.Command.{Command}
-use Rattle.sg_words.specs.declared.asked.Command.TheVariants.{Sum, Simplify, Check, Value, ValueAtParameter}
+use Rattle.sg_words.specs.declared.asked.Command.TheVariants.{Sum, Tower, Simplify, Check, Value, ValueAtParameter}
 use Rattle.sg_top.specs.Lines.{wide_line, item_line}
 use Rattle.sg_written.proofs.Plain.{HasNoProduct}
 use Rattle.sg_top.specs.Stages.{letters_of, AreRead}
 use Rattle.sg_top.specs.Refusals.{IsTextRefusal, IsCountRefusal, IsPoleRefusal, IsSpared, HasHeavyPart}
-use Rattle.sg_top.specs.Output.{IsValueOutput, IsNarrow}
+use Rattle.sg_top.specs.Output.{IsTowerOutput, IsValueOutput, IsNarrow}
 use Rattle.sg_top.specs.declared.status.Status.{Status}
 use Rattle.sg_top.specs.declared.status.Status.TheVariants.{Done, No, Refused, Wide}
 use Rattle.sg_top.specs.declared.taken.Taken.{Taken}
@@ -74,6 +75,7 @@ pub record IsFirstLater (item : ℕ) (es : List Tree) : Type 0 where
 
 abbrev pub IsLimited : Command → Type 0
 IsLimited (Sum a) = (negsuc 999 ≤ℤ a) × (a ≤ℤ pos 1000)
+IsLimited Tower = Unit {0}
 IsLimited (Simplify a) = (negsuc 999 ≤ℤ a) × (a ≤ℤ pos 1000)
 IsLimited (Check a) = (negsuc 999 ≤ℤ a) × (a ≤ℤ pos 1000)
 IsLimited (Value k) = Unit {0}
@@ -109,6 +111,9 @@ IsPoleReply a es status line = ((status ≡ Refused) × IsPoleRefusal (Sum a) es
 abbrev pub IsTestReply : ℤ → List Tree → Status → List ℕ → Type 0
 IsTestReply a es status line =
     ((status ≡ Refused) × ((item : ℕ) × IsFirstLater item es × (line ≡ item_line (codes "later") item))) ⊎ (Each HasNoProduct es × IsPoleReply a es status line)
+
+abbrev pub IsToldReply : List Tree → Status → List ℕ → Type 0
+IsToldReply es status line = (IsStopped status line × (sums es ≡ [] → ⊥)) ⊎ IsTowerOutput es status line
 
 abbrev pub IsValueLine : Option Rat → Status → List ℕ → Type 0
 IsValueLine (Some r) status line = (status ≡ Done) × (line ≡ rational_text (fraction r) ++ codes "\n")

@@ -11,6 +11,7 @@ use crate::reply::Reply;
 use crate::samples::gen_reply;
 use crate::sums::sum_reply;
 use crate::taken::{Taken, take};
+use crate::tower::tower_reply;
 use crate::values::value_reply;
 use sg_expr::Expr;
 use sg_num::Row;
@@ -83,6 +84,10 @@ pub fn output(alloc: Global, command: Command, items: &Row<Expr>) -> Result<Repl
     match command {
         Command::Sum { lower } => {
             let reply = sum_reply(alloc, items, lower)?;
+            Ok(reply)
+        }
+        Command::Tower => {
+            let reply = tower_reply(alloc, items)?;
             Ok(reply)
         }
         Command::Simplify { lower } => {

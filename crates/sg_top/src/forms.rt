@@ -62,8 +62,9 @@ pub fn check_reply(alloc: Global, items: &Row<Expr>, a: i64) -> Result<Reply, Al
     }
 }
 
-// The facts of expressions that pass the tests: that none holds a product, and that no part of a divisor is 0; or the reply to them.
-fn tested(alloc: Global, items: &Row<Expr>, a: i64) -> Result<Result<Facts, Reply>, AllocError>
+/// The facts of expressions that pass the tests: that none holds a product, and that no part of a divisor is 0; or the reply to
+/// them. The error is out of memory.
+pub fn tested(alloc: Global, items: &Row<Expr>, a: i64) -> Result<Result<Facts, Reply>, AllocError>
     requires few { length items.now ≤ 16 }
     requires form { Each (InForm false false) (map tree_of items.now) }
     requires kept { counted (map tree_of items.now) ≡ None }

@@ -13,6 +13,7 @@ mod status;
 mod sums;
 mod taken;
 mod top;
+mod tower;
 mod values;
 
 pub use status::Status;

@@ -4,7 +4,7 @@ ghost use Rattle.sg_spec.specs.Reading.{Refusal};
 ghost use Rattle.sg_num.specs.Value.{fraction};
 ghost use Rattle.sg_text.specs.RationalText.{rational_text};
 ghost use Rattle.sg_text.specs.Reads.{refusal_of};
-ghost use Rattle.sg_top.specs.Lines.{closed_line, form_line, yes_line, wide_line, op_word, placed, item_line, refusal_words};
+ghost use Rattle.sg_top.specs.Lines.{closed_line, free_line, equal_line, form_line, yes_line, wide_line, op_word, placed, item_line, refusal_words};
 
 use itoa::Buffer;
 use sg_num::{Op, Rat, Wide};
@@ -17,6 +17,30 @@ pub fn closed_text(alloc: Global, form: &[u8], start: i64) -> Result<Vec<u8>, Al
 {
     let mut buffer = Buffer::new();
     let mut text = Vec::from_slice(alloc, b"closed ")?;
+    text.extend_from_slice(form)?;
+    text.extend_from_slice(b" from ")?;
+    text.extend_from_slice(buffer.format(start).as_bytes())?;
+    text.extend_from_slice(b"\n")?;
+    Ok(text)
+}
+
+/// `free <sum>`.
+pub fn free_text(alloc: Global, sum: &[u8]) -> Result<Vec<u8>, AllocError>
+    ensures { IfOk result (λ t. t.items ≡ free_line sum.now) }
+{
+    let mut text = Vec::from_slice(alloc, b"free ")?;
+    text.extend_from_slice(sum)?;
+    text.extend_from_slice(b"\n")?;
+    Ok(text)
+}
+
+/// `<sum> = <form> from <start>`.
+pub fn equal_text(alloc: Global, sum: &[u8], form: &[u8], start: i64) -> Result<Vec<u8>, AllocError>
+    ensures { IfOk result (λ t. t.items ≡ equal_line sum.now form.now start) }
+{
+    let mut buffer = Buffer::new();
+    let mut text = Vec::from_slice(alloc, sum)?;
+    text.extend_from_slice(b" = ")?;
     text.extend_from_slice(form)?;
     text.extend_from_slice(b" from ")?;
     text.extend_from_slice(buffer.format(start).as_bytes())?;

@@ -122,7 +122,7 @@ fn may_stand(command: Command, item: usize, e: &Expr) -> bool
 {
     match command {
         Command::Sum { .. } => item == 1 || is_sum(e),
-        Command::Simplify { .. } | Command::Check { .. } => true,
+        Command::Tower | Command::Simplify { .. } | Command::Check { .. } => true,
         Command::Value { .. } | Command::ValueAtParameter { .. } => true,
     }
 }
@@ -140,7 +140,7 @@ fn letters(command: Command) -> &'static [u8]
     ensures free { IsFree result.now }
 {
     match command {
-        Command::Sum { .. } | Command::Simplify { .. } => b"k",
+        Command::Sum { .. } | Command::Tower | Command::Simplify { .. } => b"k",
         Command::Check { .. } | Command::Value { .. } => b"k",
         Command::ValueAtParameter { .. } => b"kn",
     }

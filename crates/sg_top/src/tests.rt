@@ -130,6 +130,17 @@ fn answers_the_known_rows(rt: HostRuntime) -> Result<(), Fail> {
             "(k^2+k)/2 from 1\n",
             Status::Done,
         ),
+        ("tower k", "empty\n", Status::Done),
+        (
+            "tower H(k)/(k-5)+sum(j,5,k,1/j)",
+            "free H(k)\nsum(j,5,k,1/j) = H(k)-25/12 from 4\n",
+            Status::Done,
+        ),
+        (
+            "tower sum(j,0,k,1/j)",
+            "refused pole at 0 of j item 1\n",
+            Status::Refused,
+        ),
         ("check 1 H(k) k*H(k)-k", "yes from 1\n", Status::Done),
         ("check 1 H(k) k*H(k)", "no\n", Status::No),
         (

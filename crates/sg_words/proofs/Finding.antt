@@ -16,7 +16,7 @@ use Rattle.std.proofs.lemmas.Bool.Decides.{nat_tests}
 use Rattle.std.proofs.lemmas.Int.{ints}
 use Rattle.std.proofs.lemmas.Str.{IsUtf8-from_ascii}
 use Rattle.std.proofs.lemmas.Str.Parse.{digit_at}
-use Rattle.sg_words.specs.declared.asked.Command.TheVariants.{Sum, Simplify, Check, Value, ValueAtParameter}
+use Rattle.sg_words.specs.declared.asked.Command.TheVariants.{Sum, Tower, Simplify, Check, Value, ValueAtParameter}
 use Rattle.sg_words.specs.Words.{IsNumberWord, IsCommand, IsNoCommand, IsGenWords, after_with}
 
 pub words-split : (xs : List (List ℕ)) (x word : List ℕ) → 1 ≤ length xs → x ≡ get_or xs 0 x → x ≡ word → xs ≡ word ∷ take (length xs - 1) (drop 1 xs)
@@ -36,6 +36,7 @@ value-no_parameter (x ∷ []) y l e h c texts i = absurd (omega arith)
 value-no_parameter (x ∷ (w ∷ [])) y l e h c texts i = absurd (omega arith)
 value-no_parameter (x ∷ (w ∷ (z ∷ (v ∷ vs)))) y l e h c texts i = absurd (omega arith)
 value-no_parameter (x ∷ (w ∷ (z ∷ []))) y l e h (Sum a) texts i = let other : codes "value" ≡ codes "sum" = i.0.0 in absurd (cc)
+value-no_parameter (x ∷ (w ∷ (z ∷ []))) y l e h Tower texts i = let other : 118 ≡ 116 = ap (λ (l : List ℕ). get_or l 0 0) i.0.0 in absurd (omega (arith, other))
 value-no_parameter (x ∷ (w ∷ (z ∷ []))) y l e h (Simplify a) texts i = let other : 118 ≡ 115 = ap (λ (l : List ℕ). get_or l 0 0) i.0.0 in absurd (omega (arith, other))
 value-no_parameter (x ∷ (w ∷ (z ∷ []))) y l e h (Check a) texts i = let other : 118 ≡ 99 = ap (λ (l : List ℕ). get_or l 0 0) i.0.0 in absurd (omega (arith, other))
 value-no_parameter (x ∷ (w ∷ (z ∷ []))) y l e h (Value k) texts i = value-alone w z texts i.0.1.1 i.1

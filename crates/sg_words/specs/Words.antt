@@ -15,7 +15,7 @@
 use Rattle.std.specs.Prelude.{◌≡◌, ◌≢◌, ℕ, ◌≤◌, ◌≤ℤ◌, List, [], ◌∷◌, length, ℤ, pos, negsuc, codes, slice_index}
 use Rattle.std.specs.Str.Parse.{IsNumeral, without_leading_sign, signed_digits_value}
 use Rattle.sg_words.specs.declared.asked.Command.{Command}
-use Rattle.sg_words.specs.declared.asked.Command.TheVariants.{Sum, Simplify, Check, Value, ValueAtParameter}
+use Rattle.sg_words.specs.declared.asked.Command.TheVariants.{Sum, Tower, Simplify, Check, Value, ValueAtParameter}
 
 -- a plus is no sign of a number word
 pub record IsNumberWord (low high : ℤ) (word : List ℕ) (z : ℤ) : Type 0 where
@@ -70,6 +70,7 @@ with_further (f ∷ gs) = f ∷ after_with gs
 -- a line a command; at most eight texts stand after `with`
 abbrev pub HasTexts : Command → ℕ → Type 0
 HasTexts (Sum a) n = (1 ≤ n) × (n ≤ 9)
+HasTexts Tower n = n ≡ 1
 HasTexts (Simplify a) n = n ≡ 1
 HasTexts (Check a) n = n ≡ 2
 HasTexts (Value k) n = n ≡ 1
@@ -78,6 +79,7 @@ HasTexts (ValueAtParameter m k) n = n ≡ 1
 -- a line a command
 abbrev pub IsCommand : List (List ℕ) → Command → List (List ℕ) → Type 0
 IsCommand words (Sum a) texts = Says (codes "sum") (limit a ∷ []) (with_further texts) words × HasTexts (Sum a) (length texts)
+IsCommand words Tower texts = Says (codes "tower") [] texts words × HasTexts Tower (length texts)
 IsCommand words (Simplify a) texts = Says (codes "simplify") (limit a ∷ []) texts words × HasTexts (Simplify a) (length texts)
 IsCommand words (Check a) texts = Says (codes "check") (limit a ∷ []) texts words × HasTexts (Check a) (length texts)
 IsCommand words (Value k) texts = Says (codes "value") (point k ∷ []) texts words × HasTexts (Value k) (length texts)

@@ -3,6 +3,8 @@
 pub enum Command {
     /// The sum of the first text from a lower limit on.
     Sum { lower: i64 },
+    /// Which of the sums of the text are new over those before them.
+    Tower,
     /// The simplest form of the text, from a lower limit on.
     Simplify { lower: i64 },
     /// Whether the second text telescopes the first, from a lower limit on.

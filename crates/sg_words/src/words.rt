@@ -23,6 +23,8 @@ pub fn command_of(words: &[Row<u8>]) -> Option<(Command, &Row<u8>, &[Row<u8>])>
                 check_command(rest)
             } else if word.as_slice() == b"value".as_slice() {
                 value_command(rest)
+            } else if word.as_slice() == b"tower".as_slice() {
+                tower_command(rest)
             } else {
                 None
             }
@@ -73,6 +75,16 @@ fn further_texts(words: &[Row<u8>]) -> Option<&[Row<u8>]>
         return None;
     }
     Some(&words[1..])
+}
+
+// `tower`, and then these words.
+fn tower_command(rest: &[Row<u8>]) -> Option<(Command, &Row<u8>, &[Row<u8>])>
+    ensures { MatchOption result (IsNoCommand (codes "tower" ∷ rest.now)) (λ r. IsCommand (codes "tower" ∷ rest.now) r.0 (r.1.now ∷ r.2.now)) }
+{
+    if rest.len() != 1 {
+        return None;
+    }
+    Some((Command::Tower, &rest[0], &rest[1..]))
 }
 
 // `simplify`, and then these words.

@@ -24,6 +24,15 @@ returns-in_ok-reply-in-Sum c =
     let fits : FitsSigned w64 c.in-Sum.lower = search rules in
     rw c.in-Sum.is (simp to_z-of_z at c.in_ok-reply-in-Sum.ensures)
 
+pub tower_reply-requires-clause-one : goal.tower_reply-requires-clause-one
+tower_reply-requires-clause-one c = rw c.in-Tower.is at c.requires.texts
+
+pub tower_reply-requires-clause-form : goal.tower_reply-requires-clause-form
+tower_reply-requires-clause-form c = rw c.in-Tower.is at c.requires.form
+
+pub returns-in_ok-reply-in-Tower : goal.returns-in_ok-reply-in-Tower
+returns-in_ok-reply-in-Tower c = rw c.in-Tower.is c.in_ok-reply-in-Tower.ensures
+
 pub simplify_reply-requires-clause-one : goal.simplify_reply-requires-clause-one
 simplify_reply-requires-clause-one c = rw c.in-Simplify.is at c.requires.texts
 

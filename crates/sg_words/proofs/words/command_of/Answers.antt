@@ -21,3 +21,8 @@ pub returns-then-eq-4 : goal.returns-then-eq-4
 returns-then-eq-4 c =
     let word : c.as_slice-else-eq-3.result.now ≡ codes "value" = search rules in
     rw (words-split c.args.words.now c.word-item.result (codes "value") c.in-len1-up.len_at_least c.word-item.is (sym c.as_slice-else-eq-3.ensures ∙ word)) c.value_command.ensures
+
+pub returns-then-eq-5 : goal.returns-then-eq-5
+returns-then-eq-5 c =
+    let word : c.as_slice-else-eq-4.result.now ≡ codes "tower" = search rules in
+    rw (words-split c.args.words.now c.word-item.result (codes "tower") c.in-len1-up.len_at_least c.word-item.is (sym c.as_slice-else-eq-4.ensures ∙ word)) c.tower_command.ensures

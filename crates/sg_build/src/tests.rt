@@ -33,14 +33,14 @@ fn function(alloc: Global, upper: &[i128], lower: &[i128]) -> Result<RatFun<Rat>
 }
 
 /// Whether the function is expressed as this tree.
-fn is_expressed<T: Tower<K = Rat>>(
+fn is_expressed<F: Letters, T: Tower<K = F>>(
     alloc: Global,
     tower: &T,
-    f: &RatFun<Rat>,
+    f: &RatFun<F>,
     want: &Expr,
 ) -> Result<bool, Stop>
-    requires no_products { 0 ≡ length (T.reading T.K.vars T.K.val tower.now).formal.products }
-    requires no_sums { 0 ≡ (T.reading T.K.vars T.K.val tower.now).formal.sums }
+    requires no_products { 0 ≡ length (T.reading F.vars F.val tower.now).formal.products }
+    requires no_sums { 0 ≡ (T.reading F.vars F.val tower.now).formal.sums }
 {
     let e = tower.lift(alloc, f)?;
     let t = express(alloc, tower, &[], &[], &e)?;
@@ -98,13 +98,13 @@ fn evaluates_expressions(rt: HostRuntime) -> Result<(), Fail> {
 }
 
 /// The value of the function.
-fn value_at<T: Tower<K = Rat>>(
+fn value_at<F: Letters, T: Tower<K = F>>(
     alloc: Global,
     tower: &T,
-    f: &RatFun<Rat>,
+    f: &RatFun<F>,
     k: i64,
-) -> Result<Option<Rat>, Stop>
-    requires no_generators { 0 ≡ length (T.reading T.K.vars T.K.val tower.now).formal.products + (T.reading T.K.vars T.K.val tower.now).formal.sums }
+) -> Result<Option<F>, Stop>
+    requires { 0 ≡ length (T.reading F.vars F.val tower.now).formal.products + (T.reading F.vars F.val tower.now).formal.sums }
 {
     let e = tower.lift(alloc, f)?;
     let v = elem_at(alloc, tower, &e, k, &[])?;
@@ -135,12 +135,17 @@ fn quotient(alloc: Global) -> Result<Expr, AllocError>
 }
 
 /// The expression of the element that an expression without sums and products stands for.
-fn expressed_again<T: Tower<K = Rat>>(alloc: Global, tower: &T, e: &Expr) -> Result<Expr, Stop>
-    requires no_products { 0 ≡ length (T.reading T.K.vars T.K.val tower.now).formal.products }
-    requires no_sums { 0 ≡ (T.reading T.K.vars T.K.val tower.now).formal.sums }
-    requires placeable { IsPlaceable (letter 0) (T.reading T.K.vars T.K.val tower.now) [] [] [] (tree_of e.now) }
+fn expressed_again<F: Letters, T: Tower<K = F>>(
+    alloc: Global,
+    tower: &T,
+    e: &Expr,
+) -> Result<Expr, Stop>
+    requires no_products { 0 ≡ length (T.reading F.vars F.val tower.now).formal.products }
+    requires no_sums { 0 ≡ (T.reading F.vars F.val tower.now).formal.sums }
+    requires placeable { IsPlaceable (letter F.vars) (T.reading F.vars F.val tower.now) [] [] [] (tree_of e.now) }
 {
-    let x = place(alloc, tower, &[], &[], &[], e)?;
+    let known = Row::new(alloc);
+    let x = place(alloc, tower, &[], &[], known.as_slice(), e)?;
     let t = express(alloc, tower, &[], &[], &x)?;
     Ok(t)
 }

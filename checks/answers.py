@@ -2,8 +2,9 @@
 """answers.py PROGRAM [--stack KIB]: runs the built program on the known answers of answers.txt and on the runs that the documents show.
 
 Each answer is a name, the words after `sigma` as a shell reads them, the lines of standard output, and the exit status;
-{text*n} in the words stands for n times the text. Nothing may go to standard error. A run that README.md or a document
-shows is a line `$ sigma ..` and the lines below it. With --stack the program has that much stack. Prints what differs and the
+{text*n} in the words stands for n times the text. A line `$ printf TEXT | sigma ..` gives the program TEXT to read, else
+there is nothing to read. Nothing may go to standard error. A run that README.md or a document shows is such a line and the
+lines below it. With --stack the program has that much stack. Prints what differs and the
 counts; ends with 1 where something differs.
 """
 import argparse
@@ -18,9 +19,15 @@ HERE = Path(__file__).resolve().parent
 ROOT = HERE.parent
 
 
-def words_of(text):
-    text = re.sub(r"\{(.*?)\*(\d+)\}", lambda m: m[1] * int(m[2]), text)
-    return shlex.split(text)
+def words_of(line):
+    """The words after `sigma`, and the bytes to be read."""
+    text = re.sub(r"\{(.*?)\*(\d+)\}", lambda m: m[1] * int(m[2]), line)
+    words, given = shlex.split(text), b""
+    if words[0] == "printf":
+        assert words[2:4] == ["|", "sigma"], line
+        given, words = words[1].replace("\\n", "\n").encode(), words[3:]
+    assert words[0] == "sigma", line
+    return words[1:], given
 
 
 def known(path):
@@ -29,39 +36,40 @@ def known(path):
     for block in re.split(r"\n\s*\n", text.strip()):
         name, *rows = block.splitlines()
         rows = [row.removeprefix("    ") for row in rows]
-        assert rows[0].startswith("$ sigma") and rows[-1].startswith("status "), name
-        yield name, words_of(rows[0].removeprefix("$ sigma")), rows[1:-1], int(rows[-1].split()[1])
+        assert rows[0].startswith("$ ") and rows[-1].startswith("status "), name
+        yield name, words_of(rows[0].removeprefix("$ ")), rows[1:-1], int(rows[-1].split()[1])
 
 
 def shown(path):
     """(place, words, lines, None) of each run that a document shows."""
     lines = path.read_text().splitlines()
     for at, line in enumerate(lines):
-        if not line.startswith("    $ sigma "):
+        if not re.match(r"    \$ (sigma|printf .* \| sigma) ", line):
             continue
         below = []
         for after in lines[at + 1:]:
             if not after.startswith("    ") or after.startswith("    $ "):
                 break
             below.append(after.removeprefix("    "))
-        yield f"{path.relative_to(ROOT)}:{at + 1}", words_of(line.removeprefix("    $ sigma")), below, None
+        yield f"{path.relative_to(ROOT)}:{at + 1}", words_of(line.removeprefix("    $ ")), below, None
 
 
-def differs(program, words, lines, status, stack):
+def differs(program, words, given, lines, status, stack):
     def limit():
         if stack:
             resource.setrlimit(resource.RLIMIT_STACK, (stack << 10, stack << 10))
 
     run = subprocess.run(
-        [program] + words, stdin=subprocess.DEVNULL, capture_output=True, text=True, timeout=120, preexec_fn=limit
+        [program] + words, input=given, capture_output=True, timeout=120, preexec_fn=limit
     )
+    written, told = run.stdout.decode(errors="replace"), run.stderr.decode(errors="replace")
     wanted = "".join(line + "\n" for line in lines)
-    if run.stdout != wanted:
-        return f"wrote {run.stdout[:200]!r}, wanted {wanted[:200]!r}"
+    if written != wanted:
+        return f"wrote {written[:200]!r}, wanted {wanted[:200]!r}"
     if status is not None and run.returncode != status:
         return f"ended with {run.returncode}, wanted {status}"
-    if run.stderr:
-        return f"wrote to standard error: {run.stderr[:200]!r}"
+    if told:
+        return f"wrote to standard error: {told[:200]!r}"
     return None
 
 
@@ -74,8 +82,8 @@ def main():
     for path in [ROOT / "README.md", *sorted(ROOT.glob("docs/**/*.md"))]:
         answers += shown(path)
     failed = 0
-    for name, words, lines, status in answers:
-        fault = differs(str(given.program.resolve()), words, lines, status, given.stack)
+    for name, (words, read), lines, status in answers:
+        fault = differs(str(given.program.resolve()), words, read, lines, status, given.stack)
         if fault:
             failed += 1
             print(f"{name}: {fault}")

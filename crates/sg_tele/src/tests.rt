@@ -1,11 +1,13 @@
 use crate::telescope;
 use sg_bottom::Bottom;
+use sg_matrix::Solution;
 use sg_num::{Field, Rat, Row, Stop};
 use sg_poly::Poly;
 use sg_ratfun::RatFun;
 use sg_sums::SumExt;
 use sg_tower::Tower;
 use std::alloc::Global;
+use std::test::Fail;
 
 // A whole number, and the exponents of k and of the sums t and u.
 type Monomial = (i128, u32, u32, u32);
@@ -241,4 +243,93 @@ fn fails(alloc: Global) -> Result<bool, Stop> {
 #[test]
 fn finds_that_a_sum_is_new(rt: HostRuntime) {
     assert!(rt; matches!(fails(rt.alloc()), Ok(true)));
+}
+
+// Whether (c, g) solves σ(g) - g = c f.
+fn is_solution<T: Tower<K = Rat>>(
+    alloc: Global,
+    tower: &T,
+    f: &T::Elem,
+    s: &Solution<Rat, T::Elem>,
+) -> Result<bool, Stop> {
+    // constants past the end are 0
+    let c = if s.coeffs.is_empty() {
+        Rat::whole(0)
+    } else {
+        *s.coeffs.get(0)
+    };
+    let moved = tower.shift(alloc, &s.value)?;
+    let left = tower.sub(alloc, &moved, &s.value)?;
+    let right = tower.scale(alloc, &c, f)?;
+    tower.same(alloc, &left, &right)
+}
+
+// How many solutions are answered for one right side; None where one is none.
+fn solutions<T: Tower<K = Rat>>(
+    alloc: Global,
+    tower: &T,
+    f: &[Monomial],
+) -> Result<Option<usize>, Stop> {
+    let mut fs = Row::new(alloc);
+    fs.push(element(alloc, tower, f)?)?;
+    let rows = tower.solve(alloc, &fs)?;
+    for s in rows.as_slice() {
+        if !is_solution(alloc, tower, fs.get(0), s)? {
+            return Ok(None);
+        }
+    }
+    Ok(Some(rows.len()))
+}
+
+#[test]
+fn solves_for_a_basis(rt: HostRuntime) {
+    let tower = harmonic(rt.alloc());
+    assert!(rt; matches!(&tower, Ok(Some(_))));
+    if let Ok(Some(tower)) = tower {
+        let t: &[Monomial] = &[(1, 0, 1, 0)];
+        assert!(rt; matches!(solutions(rt.alloc(), &tower, t), Ok(Some(2))));
+        assert!(rt; matches!(solutions(rt.alloc(), &tower, &[]), Ok(Some(2))));
+    }
+}
+
+// Whether σ(t) is t + 1/(k + 1).
+fn moves<T: Tower<K = Rat>>(alloc: Global, tower: &T) -> Result<bool, Stop> {
+    let t = own(alloc, tower, 0)?;
+    let r = tower.lift(alloc, &inverse(alloc, 1)?)?;
+    let next = tower.add(alloc, &t, &r)?;
+    let moved = tower.shift(alloc, &t)?;
+    tower.same(alloc, &moved, &next)
+}
+
+// The constant that an element is, and whether it has an inverse.
+fn kind<T: Tower<K = Rat>>(
+    alloc: Global,
+    tower: &T,
+    list: &[Monomial],
+) -> Result<(Option<Rat>, bool), Stop> {
+    let e = element(alloc, tower, list)?;
+    let c = tower.constant_of(alloc, &e)?;
+    let inverse = tower.invert(alloc, &e)?;
+    Ok((c, inverse.is_some()))
+}
+
+#[test]
+fn tells_constants_and_units(rt: HostRuntime) -> Result<(), Fail> {
+    let tower = harmonic(rt.alloc())?;
+    assert!(rt; tower.is_some());
+    if let Some(tower) = tower {
+        // 3, k, t, t - t, k t
+        let cases: [(&[Monomial], Option<Rat>, bool); 5] = [
+            (&[(3, 0, 0, 0)], Some(Rat::whole(3)), true),
+            (&[(1, 1, 0, 0)], None, true),
+            (&[(1, 0, 1, 0)], None, false),
+            (&[(1, 0, 1, 0), (-1, 0, 1, 0)], Some(Rat::whole(0)), false),
+            (&[(1, 1, 1, 0)], None, false),
+        ];
+        for (list, constant, unit) in cases {
+            assert_eq!(rt; kind(rt.alloc(), &tower, list)?, (constant, unit));
+        }
+        assert!(rt; moves(rt.alloc(), &tower)?);
+    }
+    Ok(())
 }

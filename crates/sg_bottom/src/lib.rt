@@ -5,6 +5,3 @@ mod bottom;
 mod functions;
 
 pub use bottom::Bottom;
-
-#[cfg(test)]
-mod tests;

@@ -16,6 +16,3 @@ pub use expressing::express;
 pub use letters::Letters;
 pub use placing::place;
 pub use values::value_in;
-
-#[cfg(test)]
-mod tests;

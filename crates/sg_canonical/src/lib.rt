@@ -16,6 +16,3 @@ pub use element::{Part, element_tree};
 pub use quotient::{Quotient, primitive_quotient};
 pub use rational::rational_tree;
 pub use whole::{opposite, opposites};
-
-#[cfg(test)]
-mod tests;

@@ -6,6 +6,3 @@ mod parameter;
 mod tree;
 
 pub use tree::Expr;
-
-#[cfg(test)]
-mod tests;

@@ -8,6 +8,3 @@ mod terms;
 
 pub use laurent::Laurent;
 pub use terms::Term;
-
-#[cfg(test)]
-mod tests;

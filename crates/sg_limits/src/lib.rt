@@ -16,6 +16,3 @@ pub use divisors::{Divisor, divisor_parts, zero_parts};
 pub use fault::LimitFault;
 pub use inspection::{Facts, inspect};
 pub use start::start_of;
-
-#[cfg(test)]
-mod tests;

@@ -10,6 +10,3 @@ mod simple;
 
 pub use plane::Poly2;
 pub use poly::Poly;
-
-#[cfg(test)]
-mod tests;

@@ -11,6 +11,3 @@ mod sums;
 mod terms;
 
 pub use closed::closed_form;
-
-#[cfg(test)]
-mod tests;

@@ -13,6 +13,3 @@ mod supports;
 pub use flat::descending_terms;
 pub use shift::shifted;
 pub use solve::solved;
-
-#[cfg(test)]
-mod tests;

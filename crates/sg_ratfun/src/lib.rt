@@ -9,6 +9,3 @@ mod ratfun;
 mod split;
 
 pub use ratfun::RatFun;
-
-#[cfg(test)]
-mod tests;

@@ -12,6 +12,3 @@ mod split;
 mod step;
 
 pub use shifts::spread;
-
-#[cfg(test)]
-mod tests;

@@ -21,28 +21,3 @@ pub fn print_rat(alloc: Global, r: Rat) -> Result<Row<u8>, AllocError>
     }
     Ok(text)
 }
-
-#[cfg(test)]
-mod tests {
-    use super::*;
-    use std::test::Fail;
-
-    #[test]
-    fn prints_fractions(rt: HostRuntime) -> Result<(), Fail> {
-        let alloc = rt.alloc();
-        for (num, den, want) in [
-            (0, 1, "0"),
-            (-7, 1, "-7"),
-            (-3, 2, "-3/2"),
-            (6, -4, "-3/2"),
-            (i128::MIN, 3, "-170141183460469231731687303715884105728/3"),
-        ] {
-            let text = match Rat::new(num, den) {
-                Some(r) => print_rat(alloc, r)?,
-                None => Row::new(alloc),
-            };
-            assert!(rt; text.as_slice() == want.as_bytes(), "{want}");
-        }
-        Ok(())
-    }
-}

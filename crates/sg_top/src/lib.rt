@@ -18,6 +18,3 @@ mod values;
 
 pub use status::Status;
 pub use top::sigma;
-
-#[cfg(test)]
-mod tests;

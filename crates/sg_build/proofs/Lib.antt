@@ -11,4 +11,3 @@ pub mod TermParts
 pub mod FoundTerms
 pub mod WorthParts
 pub mod OneText
-pub mod PlaceableQuotient

@@ -1,0 +1,24 @@
+//! Tests of the crates of numbers, polynomials, texts and expressions, from outside: tests in a crate check the whole crate once
+//! more.
+#![tactic(auto)]
+
+#[cfg(test)]
+mod closed_forms;
+#[cfg(test)]
+mod expressions;
+#[cfg(test)]
+mod limits;
+#[cfg(test)]
+mod made;
+#[cfg(test)]
+mod polynomials;
+#[cfg(test)]
+mod printing;
+#[cfg(test)]
+mod rational_functions;
+#[cfg(test)]
+mod reading;
+#[cfg(test)]
+mod shifts;
+#[cfg(test)]
+mod trees;

@@ -9,6 +9,8 @@ mod expressions;
 #[cfg(test)]
 mod limits;
 #[cfg(test)]
+mod linear_systems;
+#[cfg(test)]
 mod made;
 #[cfg(test)]
 mod polynomials;
@@ -19,6 +21,10 @@ mod rational_functions;
 #[cfg(test)]
 mod reading;
 #[cfg(test)]
+mod roots;
+#[cfg(test)]
 mod shifts;
 #[cfg(test)]
 mod trees;
+#[cfg(test)]
+mod values;

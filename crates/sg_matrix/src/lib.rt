@@ -10,6 +10,3 @@ mod vectors;
 pub use echelon::Echelon;
 pub use null::null_basis;
 pub use solution::Solution;
-
-#[cfg(test)]
-mod tests;

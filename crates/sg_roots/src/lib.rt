@@ -7,6 +7,3 @@ mod pieces;
 mod signs;
 
 pub use far::far_roots;
-
-#[cfg(test)]
-mod tests;

@@ -4,6 +4,3 @@
 mod antidifference;
 
 pub use antidifference::telescope;
-
-#[cfg(test)]
-mod tests;

@@ -11,3 +11,5 @@ mod laurent;
 mod made;
 #[cfg(test)]
 mod products;
+#[cfg(test)]
+mod telescoping;

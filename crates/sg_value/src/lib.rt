@@ -7,6 +7,3 @@ mod terms;
 mod value;
 
 pub use value::value_at;
-
-#[cfg(test)]
-mod tests;

@@ -1,5 +1,5 @@
-use crate::far_roots;
 use sg_num::{Rat, Row, Stop};
+use sg_roots::far_roots;
 use std::alloc::Global;
 
 // The whole coefficients as fractions.

@@ -1,6 +1,6 @@
-use crate::value_at;
 use sg_expr::Expr;
 use sg_num::{Op, Rat, Wide};
+use sg_value::value_at;
 use std::alloc::{AllocError, Global};
 use std::test::Fail;
 

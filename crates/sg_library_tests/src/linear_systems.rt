@@ -1,7 +1,6 @@
 ghost use Rattle.std.specs.Prelude.{◌≡◌, ℕ, ◌<◌, [], length, get_or, IsTrue};
 
-use crate::echelon::Echelon;
-use crate::{Solution, null_basis};
+use sg_matrix::{Echelon, Solution, null_basis};
 use sg_num::{Rat, Row, Stop};
 use std::alloc::Global;
 

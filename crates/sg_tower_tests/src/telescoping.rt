@@ -1,10 +1,10 @@
-use crate::telescope;
 use sg_bottom::Bottom;
 use sg_matrix::Solution;
 use sg_num::{Field, Rat, Row, Stop};
 use sg_poly::Poly;
 use sg_ratfun::RatFun;
 use sg_sums::SumExt;
+use sg_tele::telescope;
 use sg_tower::Tower;
 use std::alloc::Global;
 use std::test::Fail;

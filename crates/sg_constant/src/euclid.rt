@@ -18,6 +18,38 @@ struct Multiple<F: Field> {
     factor: Poly<F>,
 }
 
+// A polynomial t with t u - 1 divided by w, where u and w are coprime (Euclid).
+pub(crate) fn inverse<F: Field>(alloc: Global, u: &Poly<F>, w: &Poly<F>) -> Result<Poly<F>, Stop>
+    requires monic { IsMonic (map F.val w.now) }
+    requires apart { Coprime (PolynomialR F.vars) (polynomial F.val w.now) (polynomial F.val u.now) }
+    ensures value { IfOk result (λ t. IsMultiple (polynomial F.val w.now) (polynomial F.val u.now) one_polynomial (polynomial F.val t)) }
+    ensures wide { IfErr result KeepsWideStep }
+{
+    let mut b = started(alloc, u, w)?;
+    let mut a = Multiple {
+        value: w.copy(alloc)?,
+        factor: nothing(alloc)?,
+    };
+    while !b.value.is_zero() {
+        let divisor = normal(alloc, &b)?;
+        b = rest(alloc, &a, &divisor)?;
+        a = divisor;
+    }
+    Ok(a.factor)
+}
+
+// The rest of u by w, as u times 1.
+fn started<F: Field>(alloc: Global, u: &Poly<F>, w: &Poly<F>) -> Result<Multiple<F>, Stop>
+    requires { ¬ (polynomial F.val w.now ≡ zero_polynomial) }
+    ensures value { IfOk result (λ r. IsRest (polynomial F.val u.now) (polynomial F.val w.now) (polynomial F.val r.value)) }
+    ensures factor { IfOk result (λ r. polynomial F.val r.factor ≡ one_polynomial) }
+    ensures wide { IfErr result KeepsWideStep }
+{
+    let (_quotient, value) = u.div_rem(alloc, w)?;
+    let factor = Poly::one(alloc)?;
+    Ok(Multiple { value, factor })
+}
+
 // The same with leading coefficient 1.
 fn normal<F: Field>(alloc: Global, m: &Multiple<F>) -> Result<Multiple<F>, Stop>
     requires { ¬ (polynomial F.val m.now.value ≡ zero_polynomial) }
@@ -52,36 +84,4 @@ fn rest<F: Field>(alloc: Global, a: &Multiple<F>, b: &Multiple<F>) -> Result<Mul
     let product = quotient.mul(alloc, &b.factor)?;
     let factor = a.factor.sub(alloc, &product)?;
     Ok(Multiple { value, factor })
-}
-
-// The rest of u by w, as u times 1.
-fn started<F: Field>(alloc: Global, u: &Poly<F>, w: &Poly<F>) -> Result<Multiple<F>, Stop>
-    requires { ¬ (polynomial F.val w.now ≡ zero_polynomial) }
-    ensures value { IfOk result (λ r. IsRest (polynomial F.val u.now) (polynomial F.val w.now) (polynomial F.val r.value)) }
-    ensures factor { IfOk result (λ r. polynomial F.val r.factor ≡ one_polynomial) }
-    ensures wide { IfErr result KeepsWideStep }
-{
-    let (_quotient, value) = u.div_rem(alloc, w)?;
-    let factor = Poly::one(alloc)?;
-    Ok(Multiple { value, factor })
-}
-
-// A polynomial t with t u - 1 divided by w, where u and w are coprime (Euclid).
-pub(crate) fn inverse<F: Field>(alloc: Global, u: &Poly<F>, w: &Poly<F>) -> Result<Poly<F>, Stop>
-    requires monic { IsMonic (map F.val w.now) }
-    requires apart { Coprime (PolynomialR F.vars) (polynomial F.val w.now) (polynomial F.val u.now) }
-    ensures value { IfOk result (λ t. IsMultiple (polynomial F.val w.now) (polynomial F.val u.now) one_polynomial (polynomial F.val t)) }
-    ensures wide { IfErr result KeepsWideStep }
-{
-    let mut b = started(alloc, u, w)?;
-    let mut a = Multiple {
-        value: w.copy(alloc)?,
-        factor: nothing(alloc)?,
-    };
-    while !b.value.is_zero() {
-        let divisor = normal(alloc, &b)?;
-        b = rest(alloc, &a, &divisor)?;
-        a = divisor;
-    }
-    Ok(a.factor)
 }

@@ -10,22 +10,20 @@ use sg_num::{Field, Row, Stop};
 use sg_poly::Poly;
 use std::alloc::Global;
 
-// a x + b y.
-fn sum<F: Field>(
-    alloc: Global,
-    a: &Poly<F>,
-    x: &Poly<F>,
-    b: &Poly<F>,
-    y: &Poly<F>,
-) -> Result<Poly<F>, Stop>
-    ensures value { IfOk result (λ r. polynomial F.val r ≡ polynomial F.val a.now *ᵖ polynomial F.val x.now
-        +ᵖ polynomial F.val b.now *ᵖ polynomial F.val y.now) }
+// The sum of two shares, over their denominators' common multiple of least degree.
+pub(crate) fn joined<F: Field>(alloc: Global, s: &Share<F>, t: &Share<F>) -> Result<Share<F>, Stop>
+    requires left { ¬ (polynomial F.val s.now.lower ≡ zero_polynomial) }
+    requires right { ¬ (polynomial F.val t.now.lower ≡ zero_polynomial) }
+    requires same { length s.now.uppers ≡ length t.now.uppers }
+    ensures joined { IfOk result (λ r. IsJoined (share F.val s.now) (share F.val t.now) (share F.val r)) }
     ensures wide { IfErr result KeepsWideStep }
 {
-    let left = a.mul(alloc, x)?;
-    let right = b.mul(alloc, y)?;
-    let r = left.add(alloc, &right)?;
-    Ok(r)
+    let g = s.lower.gcd(alloc, &t.lower)?;
+    let x = t.lower.exact(alloc, &g)?;
+    let y = s.lower.exact(alloc, &g)?;
+    let uppers = sums(alloc, s.uppers.as_slice(), &x, t.uppers.as_slice(), &y)?;
+    let lower = s.lower.mul(alloc, &x)?;
+    Ok(Share { uppers, lower })
 }
 
 // The sums of the one times x and the other times y.
@@ -47,18 +45,20 @@ fn sums<F: Field>(
     Ok(sums)
 }
 
-// The sum of two shares, over their denominators' common multiple of least degree.
-pub(crate) fn joined<F: Field>(alloc: Global, s: &Share<F>, t: &Share<F>) -> Result<Share<F>, Stop>
-    requires left { ¬ (polynomial F.val s.now.lower ≡ zero_polynomial) }
-    requires right { ¬ (polynomial F.val t.now.lower ≡ zero_polynomial) }
-    requires same { length s.now.uppers ≡ length t.now.uppers }
-    ensures joined { IfOk result (λ r. IsJoined (share F.val s.now) (share F.val t.now) (share F.val r)) }
+// a x + b y.
+fn sum<F: Field>(
+    alloc: Global,
+    a: &Poly<F>,
+    x: &Poly<F>,
+    b: &Poly<F>,
+    y: &Poly<F>,
+) -> Result<Poly<F>, Stop>
+    ensures value { IfOk result (λ r. polynomial F.val r ≡ polynomial F.val a.now *ᵖ polynomial F.val x.now
+        +ᵖ polynomial F.val b.now *ᵖ polynomial F.val y.now) }
     ensures wide { IfErr result KeepsWideStep }
 {
-    let g = s.lower.gcd(alloc, &t.lower)?;
-    let x = t.lower.exact(alloc, &g)?;
-    let y = s.lower.exact(alloc, &g)?;
-    let uppers = sums(alloc, s.uppers.as_slice(), &x, t.uppers.as_slice(), &y)?;
-    let lower = s.lower.mul(alloc, &x)?;
-    Ok(Share { uppers, lower })
+    let left = a.mul(alloc, x)?;
+    let right = b.mul(alloc, y)?;
+    let r = left.add(alloc, &right)?;
+    Ok(r)
 }

@@ -19,104 +19,6 @@ pub(crate) struct Factors<F: Field> {
     pub(crate) minus: F,
 }
 
-// The share at k - 1.
-fn back<F: Field>(
-    alloc: Global,
-    factors: &Factors<F>,
-    moved: &mut Row<Share<F>>,
-    s: &Share<F>,
-) -> Result<Share<F>, Stop>
-    requires inverse { F.val factors.now.a *ᵛ F.val factors.now.inverse ≡ one_value }
-    requires fits { Fits (share F.val s.now) }
-    ensures carried { IfOk result (λ r. IsCarried (F.val factors.now.a) (neg_ℤ (pos 1)) (share F.val s.now) (shares F.val moved.old) (share F.val r)
-        (shares F.val moved.new)) }
-    ensures wide { IfErr result KeepsWideStep }
-{
-    let r = image(alloc, s, -1, &factors.inverse)?;
-    let left = copy(alloc, &r)?;
-    moved.push(left)?;
-    Ok(r)
-}
-
-// The share at k + 1.
-fn forward<F: Field>(
-    alloc: Global,
-    factors: &Factors<F>,
-    moved: &mut Row<Share<F>>,
-    s: &Share<F>,
-) -> Result<Share<F>, Stop>
-    requires minus { F.val factors.now.minus ≡ neg_value one_value }
-    requires fits { Fits (share F.val s.now) }
-    ensures carried { IfOk result (λ r. IsCarried (F.val factors.now.a) (pos 1) (share F.val s.now) (shares F.val moved.old) (share F.val r)
-        (shares F.val moved.new)) }
-    ensures wide { IfErr result KeepsWideStep }
-{
-    let r = image(alloc, s, 1, &factors.a)?;
-    let left = multiple(alloc, s, &factors.minus)?;
-    moved.push(left)?;
-    Ok(r)
-}
-
-// The share at k - n.
-fn carried_back<F: Field>(
-    alloc: Global,
-    factors: &Factors<F>,
-    moved: &mut Row<Share<F>>,
-    s: Share<F>,
-    n: u32,
-) -> Result<Share<F>, Stop>
-    requires inverse { F.val factors.now.a *ᵛ F.val factors.now.inverse ≡ one_value }
-    requires fits { Fits (share F.val s) }
-    ensures carried { IfOk result (λ r. IsCarried (F.val factors.now.a) (neg_ℤ (pos n)) (share F.val s) (shares F.val moved.old) (share F.val r)
-        (shares F.val moved.new)) }
-    ensures wide { IfErr result KeepsWideStep }
-{
-    let mut r = s;
-    'steps: for i in 0..n {
-        r = back(alloc, factors, moved, &r)?;
-    }
-    Ok(r)
-}
-
-// The share at k + n.
-fn carried_forward<F: Field>(
-    alloc: Global,
-    factors: &Factors<F>,
-    moved: &mut Row<Share<F>>,
-    s: Share<F>,
-    n: u32,
-) -> Result<Share<F>, Stop>
-    requires minus { F.val factors.now.minus ≡ neg_value one_value }
-    requires fits { Fits (share F.val s) }
-    ensures carried { IfOk result (λ r. IsCarried (F.val factors.now.a) (pos n) (share F.val s) (shares F.val moved.old) (share F.val r)
-        (shares F.val moved.new)) }
-    ensures wide { IfErr result KeepsWideStep }
-{
-    let mut r = s;
-    'steps: for i in 0..n {
-        r = forward(alloc, factors, moved, &r)?;
-    }
-    Ok(r)
-}
-
-// The number as an unsigned one.
-fn count(m: i128) -> u32
-    requires low { pos 0 ≤ℤ m }
-    requires high { m ≤ℤ pos 1_048_576 }
-    ensures value { m ≡ pos result }
-{
-    m as u32
-}
-
-// The opposite of a negative number as an unsigned one.
-fn opposite(m: i128) -> u32
-    requires low { neg_ℤ (pos 1_048_576) ≤ℤ m }
-    requires high { m ≤ℤ pos 0 }
-    ensures value { neg_ℤ m ≡ pos result }
-{
-    (-m) as u32
-}
-
 // The share at k - m.
 pub(crate) fn carried<F: Field>(
     alloc: Global,
@@ -141,4 +43,102 @@ pub(crate) fn carried<F: Field>(
     }
     let r = carried_back(alloc, factors, moved, s, count(m))?;
     Ok(r)
+}
+
+// The share at k + n.
+fn carried_forward<F: Field>(
+    alloc: Global,
+    factors: &Factors<F>,
+    moved: &mut Row<Share<F>>,
+    s: Share<F>,
+    n: u32,
+) -> Result<Share<F>, Stop>
+    requires minus { F.val factors.now.minus ≡ neg_value one_value }
+    requires fits { Fits (share F.val s) }
+    ensures carried { IfOk result (λ r. IsCarried (F.val factors.now.a) (pos n) (share F.val s) (shares F.val moved.old) (share F.val r)
+        (shares F.val moved.new)) }
+    ensures wide { IfErr result KeepsWideStep }
+{
+    let mut r = s;
+    'steps: for i in 0..n {
+        r = forward(alloc, factors, moved, &r)?;
+    }
+    Ok(r)
+}
+
+// The share at k + 1.
+fn forward<F: Field>(
+    alloc: Global,
+    factors: &Factors<F>,
+    moved: &mut Row<Share<F>>,
+    s: &Share<F>,
+) -> Result<Share<F>, Stop>
+    requires minus { F.val factors.now.minus ≡ neg_value one_value }
+    requires fits { Fits (share F.val s.now) }
+    ensures carried { IfOk result (λ r. IsCarried (F.val factors.now.a) (pos 1) (share F.val s.now) (shares F.val moved.old) (share F.val r)
+        (shares F.val moved.new)) }
+    ensures wide { IfErr result KeepsWideStep }
+{
+    let r = image(alloc, s, 1, &factors.a)?;
+    let left = multiple(alloc, s, &factors.minus)?;
+    moved.push(left)?;
+    Ok(r)
+}
+
+// The opposite of a negative number as an unsigned one.
+fn opposite(m: i128) -> u32
+    requires low { neg_ℤ (pos 1_048_576) ≤ℤ m }
+    requires high { m ≤ℤ pos 0 }
+    ensures value { neg_ℤ m ≡ pos result }
+{
+    (-m) as u32
+}
+
+// The share at k - n.
+fn carried_back<F: Field>(
+    alloc: Global,
+    factors: &Factors<F>,
+    moved: &mut Row<Share<F>>,
+    s: Share<F>,
+    n: u32,
+) -> Result<Share<F>, Stop>
+    requires inverse { F.val factors.now.a *ᵛ F.val factors.now.inverse ≡ one_value }
+    requires fits { Fits (share F.val s) }
+    ensures carried { IfOk result (λ r. IsCarried (F.val factors.now.a) (neg_ℤ (pos n)) (share F.val s) (shares F.val moved.old) (share F.val r)
+        (shares F.val moved.new)) }
+    ensures wide { IfErr result KeepsWideStep }
+{
+    let mut r = s;
+    'steps: for i in 0..n {
+        r = back(alloc, factors, moved, &r)?;
+    }
+    Ok(r)
+}
+
+// The share at k - 1.
+fn back<F: Field>(
+    alloc: Global,
+    factors: &Factors<F>,
+    moved: &mut Row<Share<F>>,
+    s: &Share<F>,
+) -> Result<Share<F>, Stop>
+    requires inverse { F.val factors.now.a *ᵛ F.val factors.now.inverse ≡ one_value }
+    requires fits { Fits (share F.val s.now) }
+    ensures carried { IfOk result (λ r. IsCarried (F.val factors.now.a) (neg_ℤ (pos 1)) (share F.val s.now) (shares F.val moved.old) (share F.val r)
+        (shares F.val moved.new)) }
+    ensures wide { IfErr result KeepsWideStep }
+{
+    let r = image(alloc, s, -1, &factors.inverse)?;
+    let left = copy(alloc, &r)?;
+    moved.push(left)?;
+    Ok(r)
+}
+
+// The number as an unsigned one.
+fn count(m: i128) -> u32
+    requires low { pos 0 ≤ℤ m }
+    requires high { m ≤ℤ pos 1_048_576 }
+    ensures value { m ≡ pos result }
+{
+    m as u32
 }

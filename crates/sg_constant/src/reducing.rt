@@ -19,39 +19,45 @@ use sg_poly::Poly;
 use sg_ratfun::RatFun;
 use std::alloc::Global;
 
-// p where j is i, and 0 else.
-fn item_at<F: Field>(alloc: Global, j: usize, i: usize, p: &Poly<F>) -> Result<Poly<F>, Stop>
-    ensures here { IfOk result (λ r. j ≡ i → polynomial F.val r ≡ polynomial F.val p.now) }
-    ensures other { IfOk result (λ r. ¬ (j ≡ i) → polynomial F.val r ≡ zero_polynomial) }
-    ensures wide { IfErr result KeepsWideStep }
-{
-    if j != i {
-        let r = nothing(alloc)?;
-        return Ok(r);
-    }
-    let r = p.copy(alloc)?;
-    Ok(r)
-}
-
-// n polynomials that are 0 but for p at i.
-fn alone<F: Field>(alloc: Global, n: usize, i: usize, p: &Poly<F>) -> Result<Row<Poly<F>>, Stop>
-    ensures value { IfOk result (λ r. polys F.val r ≡ alone_at n i (polynomial F.val p.now)) }
-    ensures wide { IfErr result KeepsWideStep }
-{
-    let mut list = Row::new(alloc);
-    for j in 0..n {
-        let item = item_at(alloc, j, i, p)?;
-        list.push(item)?;
-    }
-    Ok(list)
-}
-
 // A polynomial, and a proper fraction.
 #[derive(Drop)]
 struct Mixed<F: Field> {
     whole: Poly<F>,
     upper: Poly<F>,
     lower: Poly<F>,
+}
+
+// The polynomials of several functions, and the shares that their proper fractions are reduced to.
+#[derive(Drop)]
+pub(crate) struct Reduction<F: Field> {
+    pub(crate) wholes: Row<Poly<F>>,
+    pub(crate) state: State<F>,
+}
+
+// The reduction of the functions, each apart: its polynomial, and its proper fraction settled.
+pub(crate) fn reduced<F: Field>(
+    alloc: Global,
+    factors: &Factors<F>,
+    fs: &[RatFun<F>],
+) -> Result<Reduction<F>, Stop>
+    requires inverse { F.val factors.now.a *ᵛ F.val factors.now.inverse ≡ one_value }
+    requires minus { F.val factors.now.minus ≡ neg_value one_value }
+    ensures reduced { IfOk result (λ r. IsReduction (F.val factors.now.a) (length fs.now) (map (ratio F.val) fs.now) (polys F.val r.wholes)
+        (shares F.val r.state.settled) (shares F.val r.state.moved)) }
+    ensures wide { IfErr result KeepsWideStep }
+{
+    let n = fs.len();
+    let mut wholes = Row::new(alloc);
+    let mut state = State {
+        settled: Row::new(alloc),
+        moved: Row::new(alloc),
+    };
+    for i in 0..n {
+        let parts = divided(alloc, &fs[i])?;
+        add_fraction(alloc, factors, &mut state, parts.upper, parts.lower, n, i)?;
+        wholes.push(parts.whole)?;
+    }
+    Ok(Reduction { wholes, state })
 }
 
 // The rational function as the sum of a polynomial and a proper fraction.
@@ -70,13 +76,6 @@ fn divided<F: Field>(alloc: Global, f: &RatFun<F>) -> Result<Mixed<F>, Stop>
         upper,
         lower,
     })
-}
-
-// The polynomials of several functions, and the shares that their proper fractions are reduced to.
-#[derive(Drop)]
-pub(crate) struct Reduction<F: Field> {
-    pub(crate) wholes: Row<Poly<F>>,
-    pub(crate) state: State<F>,
 }
 
 // Adds the proper fraction of the function at the place i of n.
@@ -107,28 +106,29 @@ fn add_fraction<F: Field>(
     Ok(())
 }
 
-// The reduction of the functions, each apart: its polynomial, and its proper fraction settled.
-pub(crate) fn reduced<F: Field>(
-    alloc: Global,
-    factors: &Factors<F>,
-    fs: &[RatFun<F>],
-) -> Result<Reduction<F>, Stop>
-    requires inverse { F.val factors.now.a *ᵛ F.val factors.now.inverse ≡ one_value }
-    requires minus { F.val factors.now.minus ≡ neg_value one_value }
-    ensures reduced { IfOk result (λ r. IsReduction (F.val factors.now.a) (length fs.now) (map (ratio F.val) fs.now) (polys F.val r.wholes)
-        (shares F.val r.state.settled) (shares F.val r.state.moved)) }
+// n polynomials that are 0 but for p at i.
+fn alone<F: Field>(alloc: Global, n: usize, i: usize, p: &Poly<F>) -> Result<Row<Poly<F>>, Stop>
+    ensures value { IfOk result (λ r. polys F.val r ≡ alone_at n i (polynomial F.val p.now)) }
     ensures wide { IfErr result KeepsWideStep }
 {
-    let n = fs.len();
-    let mut wholes = Row::new(alloc);
-    let mut state = State {
-        settled: Row::new(alloc),
-        moved: Row::new(alloc),
-    };
-    for i in 0..n {
-        let parts = divided(alloc, &fs[i])?;
-        add_fraction(alloc, factors, &mut state, parts.upper, parts.lower, n, i)?;
-        wholes.push(parts.whole)?;
+    let mut list = Row::new(alloc);
+    for j in 0..n {
+        let item = item_at(alloc, j, i, p)?;
+        list.push(item)?;
     }
-    Ok(Reduction { wholes, state })
+    Ok(list)
+}
+
+// p where j is i, and 0 else.
+fn item_at<F: Field>(alloc: Global, j: usize, i: usize, p: &Poly<F>) -> Result<Poly<F>, Stop>
+    ensures here { IfOk result (λ r. j ≡ i → polynomial F.val r ≡ polynomial F.val p.now) }
+    ensures other { IfOk result (λ r. ¬ (j ≡ i) → polynomial F.val r ≡ zero_polynomial) }
+    ensures wide { IfErr result KeepsWideStep }
+{
+    if j != i {
+        let r = nothing(alloc)?;
+        return Ok(r);
+    }
+    let r = p.copy(alloc)?;
+    Ok(r)
 }

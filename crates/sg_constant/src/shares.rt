@@ -23,14 +23,34 @@ pub(crate) struct State<F: Field> {
     pub(crate) moved: Row<Share<F>>,
 }
 
-// The polynomial c p(k + m).
-fn shifted<F: Field>(alloc: Global, p: &Poly<F>, m: i128, c: &F) -> Result<Poly<F>, Stop>
-    ensures value { IfOk result (λ r. polynomial F.val r ≡ constant (F.val c.now) *ᵖ moved_polynomial m (polynomial F.val p.now)) }
+// c times the share at k + m.
+pub(crate) fn image<F: Field>(alloc: Global, s: &Share<F>, m: i128, c: &F) -> Result<Share<F>, Stop>
+    ensures value { IfOk result (λ r. share F.val r ≡ image_of m (F.val c.now) (share F.val s.now)) }
     ensures wide { IfErr result KeepsWideStep }
 {
-    let q = p.shift_by(alloc, m)?;
-    let r = q.scale(alloc, c)?;
-    Ok(r)
+    let uppers = images(alloc, s.uppers.as_slice(), m, c)?;
+    let lower = s.lower.shift_by(alloc, m)?;
+    Ok(Share { uppers, lower })
+}
+
+// c times the share.
+pub(crate) fn multiple<F: Field>(alloc: Global, s: &Share<F>, c: &F) -> Result<Share<F>, Stop>
+    ensures value { IfOk result (λ r. share F.val r ≡ scaled_by (F.val c.now) (share F.val s.now)) }
+    ensures wide { IfErr result KeepsWideStep }
+{
+    let uppers = multiples(alloc, s.uppers.as_slice(), c)?;
+    let lower = s.lower.copy(alloc)?;
+    Ok(Share { uppers, lower })
+}
+
+// An equal share.
+pub(crate) fn copy<F: Field>(alloc: Global, s: &Share<F>) -> Result<Share<F>, Stop>
+    ensures value { IfOk result (λ r. share F.val r ≡ share F.val s.now) }
+    ensures wide { IfErr result KeepsWideStep }
+{
+    let uppers = copies(alloc, s.uppers.as_slice())?;
+    let lower = s.lower.copy(alloc)?;
+    Ok(Share { uppers, lower })
 }
 
 // c times the polynomials at k + m.
@@ -45,14 +65,14 @@ fn images<F: Field>(alloc: Global, list: &[Poly<F>], m: i128, c: &F) -> Result<R
     Ok(images)
 }
 
-// c times the share at k + m.
-pub(crate) fn image<F: Field>(alloc: Global, s: &Share<F>, m: i128, c: &F) -> Result<Share<F>, Stop>
-    ensures value { IfOk result (λ r. share F.val r ≡ image_of m (F.val c.now) (share F.val s.now)) }
+// The polynomial c p(k + m).
+fn shifted<F: Field>(alloc: Global, p: &Poly<F>, m: i128, c: &F) -> Result<Poly<F>, Stop>
+    ensures value { IfOk result (λ r. polynomial F.val r ≡ constant (F.val c.now) *ᵖ moved_polynomial m (polynomial F.val p.now)) }
     ensures wide { IfErr result KeepsWideStep }
 {
-    let uppers = images(alloc, s.uppers.as_slice(), m, c)?;
-    let lower = s.lower.shift_by(alloc, m)?;
-    Ok(Share { uppers, lower })
+    let q = p.shift_by(alloc, m)?;
+    let r = q.scale(alloc, c)?;
+    Ok(r)
 }
 
 // c times the polynomials.
@@ -67,16 +87,6 @@ fn multiples<F: Field>(alloc: Global, list: &[Poly<F>], c: &F) -> Result<Row<Pol
     Ok(multiples)
 }
 
-// c times the share.
-pub(crate) fn multiple<F: Field>(alloc: Global, s: &Share<F>, c: &F) -> Result<Share<F>, Stop>
-    ensures value { IfOk result (λ r. share F.val r ≡ scaled_by (F.val c.now) (share F.val s.now)) }
-    ensures wide { IfErr result KeepsWideStep }
-{
-    let uppers = multiples(alloc, s.uppers.as_slice(), c)?;
-    let lower = s.lower.copy(alloc)?;
-    Ok(Share { uppers, lower })
-}
-
 // Copies of the polynomials.
 fn copies<F: Field>(alloc: Global, list: &[Poly<F>]) -> Result<Row<Poly<F>>, Stop>
     ensures value { IfOk result (λ r. polys F.val r ≡ polys F.val list.now) }
@@ -87,14 +97,4 @@ fn copies<F: Field>(alloc: Global, list: &[Poly<F>]) -> Result<Row<Poly<F>>, Sto
         copies.push(list[i].copy(alloc)?)?;
     }
     Ok(copies)
-}
-
-// An equal share.
-pub(crate) fn copy<F: Field>(alloc: Global, s: &Share<F>) -> Result<Share<F>, Stop>
-    ensures value { IfOk result (λ r. share F.val r ≡ share F.val s.now) }
-    ensures wide { IfErr result KeepsWideStep }
-{
-    let uppers = copies(alloc, s.uppers.as_slice())?;
-    let lower = s.lower.copy(alloc)?;
-    Ok(Share { uppers, lower })
 }

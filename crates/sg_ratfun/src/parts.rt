@@ -53,55 +53,6 @@ pub(crate) fn product<F: Field>(
     Ok(Parts { num, den })
 }
 
-// a e + c b
-fn crossed_sum<F: Field>(
-    alloc: Global,
-    a: &Poly<F>,
-    b: &Poly<F>,
-    c: &Poly<F>,
-    e: &Poly<F>,
-) -> Result<Poly<F>, Stop>
-    ensures value { IfOk result (λ n. polynomial F.val n ≡ cross_sum F.val a.now b.now c.now e.now) }
-    ensures wide { IfErr result KeepsWideStep }
-{
-    let x = a.mul(alloc, e)?;
-    let y = c.mul(alloc, b)?;
-    let n = x.add(alloc, &y)?;
-    Ok(n)
-}
-
-// a e - c b
-fn crossed_difference<F: Field>(
-    alloc: Global,
-    a: &Poly<F>,
-    b: &Poly<F>,
-    c: &Poly<F>,
-    e: &Poly<F>,
-) -> Result<Poly<F>, Stop>
-    ensures value { IfOk result (λ n. polynomial F.val n ≡ cross_difference F.val a.now b.now c.now e.now) }
-    ensures wide { IfErr result KeepsWideStep }
-{
-    let x = a.mul(alloc, e)?;
-    let y = c.mul(alloc, b)?;
-    let n = x.sub(alloc, &y)?;
-    Ok(n)
-}
-
-// The product of the three polynomials.
-fn product_of_three<F: Field>(
-    alloc: Global,
-    a: &Poly<F>,
-    b: &Poly<F>,
-    c: &Poly<F>,
-) -> Result<Poly<F>, Stop>
-    ensures value { IfOk result (λ m. polynomial F.val m ≡ (polynomial F.val a.now *ᵖ polynomial F.val b.now) *ᵖ polynomial F.val c.now) }
-    ensures wide { IfErr result KeepsWideStep }
-{
-    let x = a.mul(alloc, b)?;
-    let m = x.mul(alloc, c)?;
-    Ok(m)
-}
-
 // a / b + c / e over the least common denominator.
 pub(crate) fn sum<F: Field>(
     alloc: Global,
@@ -144,20 +95,6 @@ pub(crate) fn difference<F: Field>(
     Ok(Parts { num: t.left, den })
 }
 
-// e / c, with a monic denominator, for a c that isn't 0.
-fn inverted<F: Field>(alloc: Global, c: &Poly<F>, e: &Poly<F>) -> Result<Parts<F>, Stop>
-    requires reduced { IsReduced (map F.val c.now) (map F.val e.now) }
-    requires some { ¬ (polynomial F.val c.now ≡ zero_polynomial) }
-    ensures value { IfOk result (λ r. quotient_of F.val r.num r.den *ᵛ quotient_of F.val c.now e.now ≡ one_value) }
-    ensures reduced { IfOk result (λ r. IsReduced (map F.val r.num) (map F.val r.den)) }
-    ensures wide { IfErr result KeepsWideStep }
-{
-    let k = lead_inverse(alloc, c)?;
-    let num = e.scale(alloc, &k)?;
-    let den = c.monic(alloc)?;
-    Ok(Parts { num, den })
-}
-
 // (a / b) / (c / e), for a c that isn't 0.
 pub(crate) fn quotient<F: Field>(
     alloc: Global,
@@ -176,4 +113,67 @@ pub(crate) fn quotient<F: Field>(
     let i = inverted(alloc, c, e)?;
     let r = product(alloc, a, b, &i.num, &i.den)?;
     Ok(r)
+}
+
+// a e + c b
+fn crossed_sum<F: Field>(
+    alloc: Global,
+    a: &Poly<F>,
+    b: &Poly<F>,
+    c: &Poly<F>,
+    e: &Poly<F>,
+) -> Result<Poly<F>, Stop>
+    ensures value { IfOk result (λ n. polynomial F.val n ≡ cross_sum F.val a.now b.now c.now e.now) }
+    ensures wide { IfErr result KeepsWideStep }
+{
+    let x = a.mul(alloc, e)?;
+    let y = c.mul(alloc, b)?;
+    let n = x.add(alloc, &y)?;
+    Ok(n)
+}
+
+// The product of the three polynomials.
+fn product_of_three<F: Field>(
+    alloc: Global,
+    a: &Poly<F>,
+    b: &Poly<F>,
+    c: &Poly<F>,
+) -> Result<Poly<F>, Stop>
+    ensures value { IfOk result (λ m. polynomial F.val m ≡ (polynomial F.val a.now *ᵖ polynomial F.val b.now) *ᵖ polynomial F.val c.now) }
+    ensures wide { IfErr result KeepsWideStep }
+{
+    let x = a.mul(alloc, b)?;
+    let m = x.mul(alloc, c)?;
+    Ok(m)
+}
+
+// a e - c b
+fn crossed_difference<F: Field>(
+    alloc: Global,
+    a: &Poly<F>,
+    b: &Poly<F>,
+    c: &Poly<F>,
+    e: &Poly<F>,
+) -> Result<Poly<F>, Stop>
+    ensures value { IfOk result (λ n. polynomial F.val n ≡ cross_difference F.val a.now b.now c.now e.now) }
+    ensures wide { IfErr result KeepsWideStep }
+{
+    let x = a.mul(alloc, e)?;
+    let y = c.mul(alloc, b)?;
+    let n = x.sub(alloc, &y)?;
+    Ok(n)
+}
+
+// e / c, with a monic denominator, for a c that isn't 0.
+fn inverted<F: Field>(alloc: Global, c: &Poly<F>, e: &Poly<F>) -> Result<Parts<F>, Stop>
+    requires reduced { IsReduced (map F.val c.now) (map F.val e.now) }
+    requires some { ¬ (polynomial F.val c.now ≡ zero_polynomial) }
+    ensures value { IfOk result (λ r. quotient_of F.val r.num r.den *ᵛ quotient_of F.val c.now e.now ≡ one_value) }
+    ensures reduced { IfOk result (λ r. IsReduced (map F.val r.num) (map F.val r.den)) }
+    ensures wide { IfErr result KeepsWideStep }
+{
+    let k = lead_inverse(alloc, c)?;
+    let num = e.scale(alloc, &k)?;
+    let den = c.monic(alloc)?;
+    Ok(Parts { num, den })
 }

@@ -39,48 +39,6 @@ pub(crate) fn shifted_poly<T: Tower>(
     Ok(r)
 }
 
-// The constant at `i`: 0 past the end.
-fn constant<F: Field>(alloc: Global, cs: &Row<F>, i: usize) -> Result<F, Stop>
-    ensures value { IfOk result (λ r. F.val r ≡ coefficient_at (map F.val cs.now) i) }
-    ensures wide { IfErr result KeepsWideStep }
-{
-    if i < cs.len() {
-        let c = cs.get(i).copy(alloc)?;
-        Ok(c)
-    } else {
-        let c = F::zero(alloc)?;
-        Ok(c)
-    }
-}
-
-// x + c y.
-fn plus_constants<F: Field>(alloc: Global, x: &Row<F>, c: &F, y: &Row<F>) -> Result<Row<F>, Stop>
-    ensures value { IfOk result (ConstantsPlus F.val x.now (F.val c.now) y.now) }
-    ensures wide { IfErr result KeepsWideStep }
-{
-    let mut r = Row::new(alloc);
-    for i in 0..x.len().max(y.len()) {
-        let a = constant(alloc, x, i)?;
-        let b = constant(alloc, y, i)?.mul(alloc, c)?;
-        r.push(a.add(alloc, &b)?)?;
-    }
-    Ok(r)
-}
-
-// The entry at `j`: 1 where it is `i`, else 0.
-fn unit_entry<F: Field>(alloc: Global, i: usize, j: usize) -> Result<F, Stop>
-    ensures value { IfOk result (λ r. F.val r ≡ unit i j) }
-    ensures wide { IfErr result KeepsWideStep }
-{
-    if i == j {
-        let one = F::one(alloc)?;
-        Ok(one)
-    } else {
-        let zero = F::zero(alloc)?;
-        Ok(zero)
-    }
-}
-
 // 1 at `i`, 0 at the other places below `n`.
 pub(crate) fn unit_row<F: Field>(alloc: Global, n: usize, i: usize) -> Result<Row<F>, Stop>
     requires { i < n }
@@ -92,55 +50,6 @@ pub(crate) fn unit_row<F: Field>(alloc: Global, n: usize, i: usize) -> Result<Ro
         r.push(unit_entry(alloc, i, j)?)?;
     }
     Ok(r)
-}
-
-// acc + c row.
-fn extended<T: Tower>(
-    alloc: Global,
-    below: &T,
-    acc: Partial<T::K, T::Elem>,
-    c: &T::K,
-    row: &Partial<T::K, T::Elem>,
-) -> Result<Partial<T::K, T::Elem>, Stop>
-    ensures value { IfOk result (IsExtended (T.reading T.K.vars T.K.val below.now) T.K.val acc (T.K.val c.now) row.now) }
-    ensures wide { IfErr result KeepsWideStep }
-{
-    if c.is_zero() {
-        return Ok(acc);
-    }
-    let coeffs = plus_constants(alloc, &acc.coeffs, c, &row.coeffs)?;
-    let more = scaled(alloc, below, c, &row.value)?;
-    let value = added(alloc, below, &acc.value, &more)?;
-    let rest = scaled(alloc, below, c, &row.left)?;
-    let left = added(alloc, below, &acc.left, &rest)?;
-    Ok(Partial {
-        coeffs,
-        value,
-        left,
-    })
-}
-
-// The sum of the rows with constants as factors.
-fn combined<T: Tower>(
-    alloc: Global,
-    below: &T,
-    beta: &T::Elem,
-    cs: &Row<T::K>,
-    rows: &Row<Partial<T::K, T::Elem>>,
-) -> Result<Partial<T::K, T::Elem>, Stop>
-    ensures value { IfOk result (IsCombined (T.reading T.K.vars T.K.val below.now) T.K.val beta.now (coefficient_at (map T.K.val cs.now)) rows.now) }
-    ensures wide { IfErr result KeepsWideStep }
-{
-    let mut sum = Partial {
-        coeffs: Row::new(alloc),
-        value: Row::new(alloc),
-        left: Row::new(alloc),
-    };
-    for i in 0..rows.len() {
-        let c = constant(alloc, cs, i)?;
-        sum = extended(alloc, below, sum, &c, rows.get(i))?;
-    }
-    Ok(sum)
 }
 
 // The unit rows: no value yet, and all is left.
@@ -165,74 +74,6 @@ pub(crate) fn start<T: Tower>(
         })?;
     }
     Ok(rows)
-}
-
-// The coefficients at `n` of what is left.
-fn sides<T: Tower>(
-    alloc: Global,
-    below: &T,
-    beta: &T::Elem,
-    fs: &Row<Poly1<T::Elem>>,
-    n: usize,
-    rows: &Row<Partial<T::K, T::Elem>>,
-) -> Result<Row<T::Elem>, Stop>
-    ensures value { IfOk result (Sides (T.reading T.K.vars T.K.val below.now) T.K.val beta.now fs.now n rows.now) }
-    ensures wide { IfErr result KeepsWideStep }
-{
-    let mut ls = Row::new(alloc);
-    for i in 0..rows.len() {
-        let row = rows.get(i);
-        ls.push(coefficient(alloc, below, &row.left, n)?)?;
-    }
-    Ok(ls)
-}
-
-// The row that goes on by v t^n.
-fn next<T: Tower>(
-    alloc: Global,
-    below: &T,
-    beta: &T::Elem,
-    fs: &Row<Poly1<T::Elem>>,
-    n: usize,
-    rows: &Row<Partial<T::K, T::Elem>>,
-    ls: &Row<T::Elem>,
-    v: &Solution<T::K, T::Elem>,
-) -> Result<Partial<T::K, T::Elem>, Stop>
-    ensures value { IfOk result (Next (T.reading T.K.vars T.K.val below.now) T.K.val beta.now fs.now n rows.now ls.now v.now) }
-    ensures wide { IfErr result KeepsWideStep }
-{
-    let sum = combined(alloc, below, beta, &v.coeffs, rows)?;
-    let power = monomial(alloc, below, n, &v.value)?;
-    let moved = shifted_poly(alloc, below, beta, &power)?;
-    let difference = subtracted(alloc, below, &moved, &power)?;
-    let value = added(alloc, below, &sum.value, &power)?;
-    let left = subtracted(alloc, below, &sum.left, &difference)?;
-    Ok(Partial {
-        coeffs: sum.coeffs,
-        value,
-        left,
-    })
-}
-
-// One power of t: the rows that go on by the solutions below.
-fn all_next<T: Tower>(
-    alloc: Global,
-    below: &T,
-    beta: &T::Elem,
-    fs: &Row<Poly1<T::Elem>>,
-    n: usize,
-    rows: &Row<Partial<T::K, T::Elem>>,
-    ls: &Row<T::Elem>,
-    inner: &Row<Solution<T::K, T::Elem>>,
-) -> Result<Row<Partial<T::K, T::Elem>>, Stop>
-    ensures value { IfOk result (λ new. Pairwise (Next (T.reading T.K.vars T.K.val below.now) T.K.val beta.now fs.now n rows.now ls.now) inner.now new) }
-    ensures wide { IfErr result KeepsWideStep }
-{
-    let mut new = Row::new(alloc);
-    for i in 0..inner.len() {
-        new.push(next(alloc, below, beta, fs, n, rows, ls, inner.get(i))?)?;
-    }
-    Ok(new)
 }
 
 // The rows without the power t^n, from those without the powers above it.
@@ -270,4 +111,163 @@ pub(crate) fn finished<K: Drop, E: Drop>(
         })?;
     }
     Ok(answer)
+}
+
+// The entry at `j`: 1 where it is `i`, else 0.
+fn unit_entry<F: Field>(alloc: Global, i: usize, j: usize) -> Result<F, Stop>
+    ensures value { IfOk result (λ r. F.val r ≡ unit i j) }
+    ensures wide { IfErr result KeepsWideStep }
+{
+    if i == j {
+        let one = F::one(alloc)?;
+        Ok(one)
+    } else {
+        let zero = F::zero(alloc)?;
+        Ok(zero)
+    }
+}
+
+// The coefficients at `n` of what is left.
+fn sides<T: Tower>(
+    alloc: Global,
+    below: &T,
+    beta: &T::Elem,
+    fs: &Row<Poly1<T::Elem>>,
+    n: usize,
+    rows: &Row<Partial<T::K, T::Elem>>,
+) -> Result<Row<T::Elem>, Stop>
+    ensures value { IfOk result (Sides (T.reading T.K.vars T.K.val below.now) T.K.val beta.now fs.now n rows.now) }
+    ensures wide { IfErr result KeepsWideStep }
+{
+    let mut ls = Row::new(alloc);
+    for i in 0..rows.len() {
+        let row = rows.get(i);
+        ls.push(coefficient(alloc, below, &row.left, n)?)?;
+    }
+    Ok(ls)
+}
+
+// One power of t: the rows that go on by the solutions below.
+fn all_next<T: Tower>(
+    alloc: Global,
+    below: &T,
+    beta: &T::Elem,
+    fs: &Row<Poly1<T::Elem>>,
+    n: usize,
+    rows: &Row<Partial<T::K, T::Elem>>,
+    ls: &Row<T::Elem>,
+    inner: &Row<Solution<T::K, T::Elem>>,
+) -> Result<Row<Partial<T::K, T::Elem>>, Stop>
+    ensures value { IfOk result (λ new. Pairwise (Next (T.reading T.K.vars T.K.val below.now) T.K.val beta.now fs.now n rows.now ls.now) inner.now new) }
+    ensures wide { IfErr result KeepsWideStep }
+{
+    let mut new = Row::new(alloc);
+    for i in 0..inner.len() {
+        new.push(next(alloc, below, beta, fs, n, rows, ls, inner.get(i))?)?;
+    }
+    Ok(new)
+}
+
+// The row that goes on by v t^n.
+fn next<T: Tower>(
+    alloc: Global,
+    below: &T,
+    beta: &T::Elem,
+    fs: &Row<Poly1<T::Elem>>,
+    n: usize,
+    rows: &Row<Partial<T::K, T::Elem>>,
+    ls: &Row<T::Elem>,
+    v: &Solution<T::K, T::Elem>,
+) -> Result<Partial<T::K, T::Elem>, Stop>
+    ensures value { IfOk result (Next (T.reading T.K.vars T.K.val below.now) T.K.val beta.now fs.now n rows.now ls.now v.now) }
+    ensures wide { IfErr result KeepsWideStep }
+{
+    let sum = combined(alloc, below, beta, &v.coeffs, rows)?;
+    let power = monomial(alloc, below, n, &v.value)?;
+    let moved = shifted_poly(alloc, below, beta, &power)?;
+    let difference = subtracted(alloc, below, &moved, &power)?;
+    let value = added(alloc, below, &sum.value, &power)?;
+    let left = subtracted(alloc, below, &sum.left, &difference)?;
+    Ok(Partial {
+        coeffs: sum.coeffs,
+        value,
+        left,
+    })
+}
+
+// The sum of the rows with constants as factors.
+fn combined<T: Tower>(
+    alloc: Global,
+    below: &T,
+    beta: &T::Elem,
+    cs: &Row<T::K>,
+    rows: &Row<Partial<T::K, T::Elem>>,
+) -> Result<Partial<T::K, T::Elem>, Stop>
+    ensures value { IfOk result (IsCombined (T.reading T.K.vars T.K.val below.now) T.K.val beta.now (coefficient_at (map T.K.val cs.now)) rows.now) }
+    ensures wide { IfErr result KeepsWideStep }
+{
+    let mut sum = Partial {
+        coeffs: Row::new(alloc),
+        value: Row::new(alloc),
+        left: Row::new(alloc),
+    };
+    for i in 0..rows.len() {
+        let c = constant(alloc, cs, i)?;
+        sum = extended(alloc, below, sum, &c, rows.get(i))?;
+    }
+    Ok(sum)
+}
+
+// The constant at `i`: 0 past the end.
+fn constant<F: Field>(alloc: Global, cs: &Row<F>, i: usize) -> Result<F, Stop>
+    ensures value { IfOk result (λ r. F.val r ≡ coefficient_at (map F.val cs.now) i) }
+    ensures wide { IfErr result KeepsWideStep }
+{
+    if i < cs.len() {
+        let c = cs.get(i).copy(alloc)?;
+        Ok(c)
+    } else {
+        let c = F::zero(alloc)?;
+        Ok(c)
+    }
+}
+
+// acc + c row.
+fn extended<T: Tower>(
+    alloc: Global,
+    below: &T,
+    acc: Partial<T::K, T::Elem>,
+    c: &T::K,
+    row: &Partial<T::K, T::Elem>,
+) -> Result<Partial<T::K, T::Elem>, Stop>
+    ensures value { IfOk result (IsExtended (T.reading T.K.vars T.K.val below.now) T.K.val acc (T.K.val c.now) row.now) }
+    ensures wide { IfErr result KeepsWideStep }
+{
+    if c.is_zero() {
+        return Ok(acc);
+    }
+    let coeffs = plus_constants(alloc, &acc.coeffs, c, &row.coeffs)?;
+    let more = scaled(alloc, below, c, &row.value)?;
+    let value = added(alloc, below, &acc.value, &more)?;
+    let rest = scaled(alloc, below, c, &row.left)?;
+    let left = added(alloc, below, &acc.left, &rest)?;
+    Ok(Partial {
+        coeffs,
+        value,
+        left,
+    })
+}
+
+// x + c y.
+fn plus_constants<F: Field>(alloc: Global, x: &Row<F>, c: &F, y: &Row<F>) -> Result<Row<F>, Stop>
+    ensures value { IfOk result (ConstantsPlus F.val x.now (F.val c.now) y.now) }
+    ensures wide { IfErr result KeepsWideStep }
+{
+    let mut r = Row::new(alloc);
+    for i in 0..x.len().max(y.len()) {
+        let a = constant(alloc, x, i)?;
+        let b = constant(alloc, y, i)?.mul(alloc, c)?;
+        r.push(a.add(alloc, &b)?)?;
+    }
+    Ok(r)
 }

@@ -46,30 +46,6 @@ impl<T: Tower> SumExt<T> {
     }
 }
 
-// How many coefficients of each polynomial may be other than 0: one more than the greatest degree.
-fn greatest_length<T: Tower>(below: &T, fs: &Row<Poly1<T::Elem>>) -> usize
-    ensures { Each (λ f. ZeroFrom (T.reading T.K.vars T.K.val below.now) f result) fs.now }
-{
-    let mut most = 0;
-    for i in 0..fs.len() {
-        let own = length_without_zeros(below, fs.get(i).row());
-        most = own.max(most);
-    }
-    most
-}
-
-// The least place from which on all coefficients are 0.
-fn length_without_zeros<T: Tower>(below: &T, p: &Row<T::Elem>) -> usize
-    ensures { ZeroFrom (T.reading T.K.vars T.K.val below.now) p.now result }
-{
-    for n in 0..p.len() {
-        if zero_from(below, p, n) {
-            return n;
-        }
-    }
-    p.len()
-}
-
 // Whether all coefficients from `n` on are 0.
 pub(crate) fn zero_from<T: Tower>(below: &T, p: &Row<T::Elem>, n: usize) -> bool
     ensures { IsTrue result ↔ ZeroFrom (T.reading T.K.vars T.K.val below.now) p.now n }
@@ -228,4 +204,28 @@ impl<T: Tower> Tower for SumExt<T> {
     }
 
     ghost independent = { λ s. (T.independent s.below, s.is_new) };
+}
+
+// How many coefficients of each polynomial may be other than 0: one more than the greatest degree.
+fn greatest_length<T: Tower>(below: &T, fs: &Row<Poly1<T::Elem>>) -> usize
+    ensures { Each (λ f. ZeroFrom (T.reading T.K.vars T.K.val below.now) f result) fs.now }
+{
+    let mut most = 0;
+    for i in 0..fs.len() {
+        let own = length_without_zeros(below, fs.get(i).row());
+        most = own.max(most);
+    }
+    most
+}
+
+// The least place from which on all coefficients are 0.
+fn length_without_zeros<T: Tower>(below: &T, p: &Row<T::Elem>) -> usize
+    ensures { ZeroFrom (T.reading T.K.vars T.K.val below.now) p.now result }
+{
+    for n in 0..p.len() {
+        if zero_from(below, p, n) {
+            return n;
+        }
+    }
+    p.len()
 }

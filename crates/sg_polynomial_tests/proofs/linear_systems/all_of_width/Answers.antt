@@ -1,6 +1,6 @@
 use Rattle.std.proofs.Common.{◌≡◌, ℕ, ◌<◌, ◌≤◌, ◌⊎◌, inl, inr, arith, length}
 use Rattle.sg_algebra.proofs.Tables.{row_read}
-use Rattle.sg_library_tests.proofs.linear_systems.all_of_width.Goals as goal
+use Rattle.sg_polynomial_tests.proofs.linear_systems.all_of_width.Goals as goal
 
 split : (k n : ℕ) → (k < n) ⊎ (n ≤ k)
 split k n = grind arith

@@ -2,7 +2,7 @@ use Rattle.std.proofs.Common.{◌-◌, ◌<◌, length, sym, ◌∙◌, rules, a
 use Rattle.sg_algebra.proofs.Polynomial.{same_poly}
 use Rattle.sg_algebra.proofs.Rows.{at_read}
 use Rattle.sg_num.specs.Value.{number}
-use Rattle.sg_library_tests.proofs.roots.has_roots.Goals as goal
+use Rattle.sg_polynomial_tests.proofs.roots.has_roots.Goals as goal
 
 pub far_roots-requires : goal.far_roots-requires
 far_roots-requires c z =

@@ -1,0 +1,16 @@
+//! Tests of linear systems, polynomials, rational functions, roots and shifts, from outside: tests in a crate check the whole crate
+//! once more.
+#![tactic(auto)]
+
+#[cfg(test)]
+mod linear_systems;
+#[cfg(test)]
+mod made;
+#[cfg(test)]
+mod polynomials;
+#[cfg(test)]
+mod rational_functions;
+#[cfg(test)]
+mod roots;
+#[cfg(test)]
+mod shifts;

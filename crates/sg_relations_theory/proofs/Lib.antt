@@ -1,0 +1,19 @@
+pub mod PowerLaws
+pub mod Similar
+pub mod Apart
+pub mod RatioTheorem
+pub mod Generators
+pub mod WrittenRows
+pub mod SplitColumns
+pub mod AtValues
+pub mod SignLaw
+pub mod ConstantsAbove
+pub mod ExponentLaws
+pub mod ShiftedSimilar
+pub mod Multiples
+pub mod NullVectors
+pub mod Transposed
+pub mod Answering
+pub mod Factors
+pub mod Exclusive
+mod RelationExamples

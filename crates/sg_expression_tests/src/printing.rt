@@ -1,3 +1,5 @@
+ghost use Rattle.std.specs.Prelude.{◌<◌};
+
 use sg_num::{Rat, Row};
 use sg_text::{Bounds, ReadFault, print, print_rat, read};
 use std::alloc::{AllocError, Global};

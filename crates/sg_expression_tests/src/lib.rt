@@ -13,6 +13,8 @@ mod printing;
 #[cfg(test)]
 mod reading;
 #[cfg(test)]
+mod syntax;
+#[cfg(test)]
 mod trees;
 #[cfg(test)]
 mod values;

@@ -23,6 +23,3 @@ pub use row::Row;
 pub use step::{Op, Stop, Wide};
 pub use unit::{common_unit, in_unit};
 pub use whole::{whole_difference, whole_product, whole_quotient, whole_sum};
-
-#[cfg(test)]
-mod tests;

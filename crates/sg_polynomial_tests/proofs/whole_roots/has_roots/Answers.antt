@@ -2,7 +2,7 @@ use Rattle.std.proofs.Common.{◌-◌, ◌<◌, length, sym, ◌∙◌, rules, a
 use Rattle.sg_algebra.proofs.Polynomial.{same_poly}
 use Rattle.sg_algebra.proofs.Rows.{at_read}
 use Rattle.sg_num.specs.Value.{number}
-use Rattle.sg_num.proofs.tests.has_roots.Goals as goal
+use Rattle.sg_polynomial_tests.proofs.whole_roots.has_roots.Goals as goal
 
 pub whole_roots-requires : goal.whole_roots-requires
 whole_roots-requires c z =

@@ -3,7 +3,7 @@ use Rattle.std.specs.Int.{w128}
 use Rattle.std.proofs.lemmas.Int.{to_z-of_z}
 use Rattle.sg_num.specs.Value.{fraction}
 use Rattle.sg_num.specs.Roots.{IsMultiple}
-use Rattle.sg_num.proofs.tests.common.Goals as goal
+use Rattle.sg_polynomial_tests.proofs.whole_roots.common.Goals as goal
 
 pub cleared-requires : goal.cleared-requires
 cleared-requires c k d inside =

@@ -1,4 +1,4 @@
-use crate::{
+use sg_num::{
     Field, Rat, Row, Stop, cleared, common_denominator, common_unit, copies_of, horner, in_unit,
     whole_difference, whole_product, whole_quotient, whole_roots, whole_sum,
 };

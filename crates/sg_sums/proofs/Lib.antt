@@ -1,6 +1,8 @@
+mod Adding
 pub mod Building
 mod Extending
 mod Flattening
+mod NextRows
 mod Shifting
 mod Solving
 mod Skipping

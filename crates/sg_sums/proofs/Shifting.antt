@@ -1,5 +1,5 @@
 -- Steps of Horner's rule, and of the lists that it goes over.
-use Rattle.std.proofs.Common.{◌≡◌, ℕ, zero, suc, ◌+◌, ◌-◌, ◌<◌, ◌≤◌, refl, sym, ap, subst, List, [], ◌∷◌, ◌++◌, map, length, drop, get_or, arith}
+use Rattle.std.proofs.Common.{◌≡◌, ℕ, zero, suc, ◌+◌, ◌-◌, ◌<◌, ◌≤◌, refl, sym, ap, subst, List, [], ◌∷◌, map, length, drop, get_or, arith}
 use Rattle.sg_algebra.specs.Ring.{Ring}
 use Rattle.sg_algebra.specs.Coefficients.{coef}
 use Rattle.sg_algebra.proofs.Solver.{by, scale, reads}
@@ -9,7 +9,6 @@ use Rattle.sg_tower_theory.proofs.Above.{monomial}
 use Rattle.sg_tower_theory.proofs.Formal.{Element, elements, shifted}
 use Rattle.sg_tower.specs.Elements.{Reading, raised, IsShifted, IsZero, IsCopy}
 use Rattle.sg_sums.specs.Polynomials.{PolySum, PolyMultiple, PolyBehind, PolyMonomial}
-use Rattle.sg_sums.proofs.Building.{Builds, builds_push, builds_all, at_read, at_past}
 
 -- the items from the place on are the item there and those behind
 pub drop_step : {E : Type 0} (xs : List E) (k i : ℕ) (x : E) → i < length xs → k ≡ length xs - 1 - i → x ≡ get_or xs k x → drop (length xs - (i + 1)) xs ≡ x ∷ drop (length xs - i) xs
@@ -46,28 +45,8 @@ module _ {d : ℕ} {E : Type 0} (ρ : Reading d E) where
   P = PolyR R
 
   -- ---- a + t x
-  abbrev pub behind_target : E → List E → ℕ → Element ρ.formal
-  behind_target a x k = coef R (ρ.of a ∷ map ρ.of x) k
-
-  pub behind_start : (a : E) (x r : List E) → r ≡ a ∷ [] → Builds R ρ.of (behind_target a x) 1 r
-  behind_start a x r e = rw e (record { size = refl; built = go })
-    where
-      go : (k : ℕ) → k < 1 → coef R (map ρ.of (a ∷ [])) k ≈ behind_target a x k
-      go zero l = rfl
-      go (suc k) l = absurd (omega arith)
-
-  pub behind_next : (a : E) (x r new : List E) (i : ℕ) (y e : E) → Builds R ρ.of (behind_target a x) (i + 1) r → i < length x → y ≡ get_or x i y → IsCopy ρ y e → new ≡ r ++ e ∷ [] → Builds R ρ.of (behind_target a x) (i + 1 + 1) new
-  behind_next a x r new i y e b l h c n = builds_push R ρ.of (behind_target a x) (i + 1) r new e b (subst (λ (j : ℕ). ρ.of e ≈ behind_target a x j) (up i) (rw (at_read R ρ.of x i y l h) c)) n
-    where
-      up : (i : ℕ) → suc i ≡ i + 1
-      up i = omega arith
-
-  pub behind_end : (a : E) (x r : List E) (i : ℕ) → Builds R ρ.of (behind_target a x) (i + 1) r → i ≡ length x → PolyBehind ρ a x r
-  behind_end a x r i b e = record { image = record { at = builds_all R ρ.of (behind_target a x) (i + 1) r b past } }
-    where
-      past : (k : ℕ) → i + 1 ≤ k → behind_target a x k ≈ O
-      past zero l = absurd (omega arith)
-      past (suc k) l = rw (at_past R ρ.of x k (omega arith)) rfl
+  pub behind_is : (a : E) (x r : List E) → r ≡ a ∷ x → PolyBehind ρ a x r
+  behind_is a x r e = rw e P.rfl
 
   -- ---- a t^n
   pub monomial_start : (a b : E) (r : List E) → IsCopy ρ a b → r ≡ b ∷ [] → PolyMonomial ρ 0 a r

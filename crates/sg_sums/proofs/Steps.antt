@@ -4,19 +4,18 @@ use Rattle.sg_algebra.specs.Ring.{Ring}
 use Rattle.sg_algebra.proofs.Ring.{neg_O, mul_O}
 use Rattle.sg_algebra.proofs.PolynomialRing.{PolyR, coef-zip, coef-each, coef-scale}
 use Rattle.sg_algebra.proofs.Place.{Pairwise}
-use Rattle.sg_algebra.proofs.Polynomial.{coefficient}
 use Rattle.sg_algebra.proofs.Value.{Value, ◌+ᵛ◌, ◌*ᵛ◌}
 use Rattle.sg_algebra.proofs.ValueField.{ValueR}
-use Rattle.sg_tower_theory.proofs.Difference.{trivial, delta_cong}
+use Rattle.sg_tower_theory.proofs.Difference.{trivial}
 use Rattle.sg_tower_theory.proofs.Above.{above, monomial}
 use Rattle.sg_algebra.proofs.Degree.{Below}
-use Rattle.sg_tower_theory.proofs.Slices.{state_next, differences}
+use Rattle.sg_tower_theory.proofs.Slices.{IsNext, state_next, differences}
 use Rattle.sg_tower_theory.proofs.PowerSlices.{power_slice}
 use Rattle.sg_tower_theory.proofs.Formal.{Element, elements, shifted}
 use Rattle.sg_matrix.specs.declared.solution.Solution.{Solution}
 use Rattle.sg_sums.specs.declared.partial.Partial.{Partial}
-use Rattle.sg_tower.specs.Elements.{Reading, raised, IsSum, IsDifference, IsShifted, consts_of, value_of, AllSolve, IsComplete}
-use Rattle.sg_sums.specs.Polynomials.{at_place, PolySum, PolyDifference, PolyMultiple, PolyMonomial, partial_consts, partial_value, partial_left, IsExtended, IsCombined, State, Sides, Next}
+use Rattle.sg_tower.specs.Elements.{Reading, consts_of, value_of, AllSolve, IsComplete}
+use Rattle.sg_sums.specs.Polynomials.{at_place, PolySum, PolyDifference, IsLowDifference, PolyMultiple, partial_consts, partial_value, partial_left, IsExtended, IsCombined, State, Sides}
 use Rattle.sg_sums.proofs.Building.{Builds, builds_all, at_read, at_past, total_next, total_whole}
 
 module _ {d : ℕ} {E : Type 0} (ρ : Reading d E) where
@@ -46,22 +45,19 @@ module _ {d : ℕ} {E : Type 0} (ρ : Reading d E) where
       past : (k : ℕ) → n ≤ k → at_place ρ x k ⊞ ⊟ (at_place ρ y k) ≈ O
       past k l = rw (at_past R ρ.of x k (omega arith), at_past R ρ.of y k (omega arith)) (R.add_neg)
 
+  pub low_built : (x y r : List E) (i n : ℕ) → Builds R ρ.of (λ k. at_place ρ x k ⊞ ⊟ (at_place ρ y k)) i r → i ≡ n → IsLowDifference ρ n x y r
+  low_built x y r i n b e = record { size = b.size ∙ e; low = λ k l. b.built k (omega (arith, e)) }
+
   pub multiple_built : (e : Element ρ.formal) (x r : List E) (n : ℕ) → Builds R ρ.of (λ k. e ⊠ at_place ρ x k) n r → n ≡ length x → PolyMultiple ρ e x r
   multiple_built e x r n b h = record { image = record { at = λ k. trans (builds_all R ρ.of (λ k. e ⊠ at_place ρ x k) n r b past k) (symm (coef-scale R e (map ρ.of x) k)) } }
     where
       past : (k : ℕ) → n ≤ k → e ⊠ at_place ρ x k ≈ O
       past k l = rw (at_past R ρ.of x k (omega arith)) (mul_O R)
 
-  pub sum_step : (x y : List E) (i : ℕ) (a b s : E) → IsSum ρ a b s → ρ.of a ≈ at_place ρ x i → ρ.of b ≈ at_place ρ y i → ρ.of s ≈ at_place ρ x i ⊞ at_place ρ y i
-  sum_step x y i a b s e h j = trans e (add_cong h j)
-
-  pub difference_step : (x y : List E) (i : ℕ) (a b s : E) → IsDifference ρ a b s → ρ.of a ≈ at_place ρ x i → ρ.of b ≈ at_place ρ y i → ρ.of s ≈ at_place ρ x i ⊞ ⊟ (at_place ρ y i)
-  difference_step x y i a b s e h j = trans e (add_cong h (neg_cong j))
-
   pub multiple_step : (c : Element ρ.formal) (x : List E) (i : ℕ) (a s : E) → i < length x → a ≡ get_or x i a → ρ.of s ≈ c ⊠ ρ.of a → ρ.of s ≈ c ⊠ at_place ρ x i
   multiple_step c x i a s l e h = rw (at_read R ρ.of x i a l e) h
 
-  mono_any : (y z : Element ρ.formal) (n : ℕ) (a : Element ρ.formal) → monomial (shifted ρ.formal) y n a ≡ monomial (shifted ρ.formal) z n a
+  pub mono_any : (y z : Element ρ.formal) (n : ℕ) (a : Element ρ.formal) → monomial (shifted ρ.formal) y n a ≡ monomial (shifted ρ.formal) z n a
   mono_any y z zero a = refl
   mono_any y z (suc n) a = ap (◌∷◌ O) (mono_any y z n a)
 
@@ -85,18 +81,13 @@ module _ {d : ℕ} {E : Type 0} (ρ : Reading d E) where
     }
 
     module _ (fs : List (List E)) (n : ℕ) (rows : List (Partial K E)) (ls : List E) where
-      pub next_is : (w : Solution K E) (sum r : Partial K E) (power moved difference : List E) → IsCombined ρ v β (consts_of ρ v w) rows sum → PolyMonomial ρ n w.value power → IsShifted (raised ρ β) power moved
-          → PolyDifference ρ moved power difference → r.coeffs ≡ sum.coeffs → PolySum ρ sum.value power r.value → PolyDifference ρ sum.left difference r.left → Next ρ v β fs n rows ls w r
-      next_is w sum r power moved difference b p s q h j k = record {
-        next_consts = λ i. ap (λ (z : List K). coefficient (map v z) i) h ∙ b.coeffs i;
-        next_value = P.trans j (P.add_cong b.value mono);
-        next_left = P.trans k (P.add_cong b.left (P.neg_cong (P.trans q (P.trans (P.add_cong s (P.rfl {x = ⊖ (map ρ.of power)})) (delta_cong (above (shifted ρ.formal) (ρ.of β)) (map ρ.of power) (monomial (shifted ρ.formal) (ρ.of β) n (ρ.of w.value)) mono)))));
-      }
-        where
-          mono : map ρ.of power ≋ monomial (shifted ρ.formal) (ρ.of β) n (ρ.of w.value)
-          mono = subst (λ (z : List (Element ρ.formal)). map ρ.of power ≋ z) (mono_any O (ρ.of β) n (ρ.of w.value)) p
+      -- r goes on from the combination of the rows by the constants of w, with the value of w times t^n added to its value
+      abbrev pub Next : Solution K E → Partial K E → Type 0
+      Next w r =
+          IsNext (shifted ρ.formal) (above (shifted ρ.formal) (ρ.of β)) (differences (shifted ρ.formal)) (differences (above (shifted ρ.formal) (ρ.of β))) (map ρ.of) fs (partial_consts ρ v) (partial_value ρ v) (partial_left ρ v)
+          (Below R (suc n)) (Below R n) (power_slice (shifted ρ.formal) (ρ.of β) n) rows ρ.of ls (consts_of ρ v) (value_of ρ v) w r
 
-      pub state_lowered : (inner : List (Solution K E)) (new : List (Partial K E)) → State ρ v β fs (n + 1) rows → Sides ρ v β fs n rows ls → AllSolve ρ v ls inner → IsComplete ρ v ls inner → Pairwise (Next ρ v β fs n rows ls) inner new → State ρ v β fs n new
+      pub state_lowered : (inner : List (Solution K E)) (new : List (Partial K E)) → State ρ v β fs (n + 1) rows → Sides ρ v β fs n rows ls → AllSolve ρ v ls inner → IsComplete ρ v ls inner → Pairwise Next inner new → State ρ v β fs n new
       state_lowered inner new st p sound all next =
           state_next (shifted ρ.formal) (above (shifted ρ.formal) (ρ.of β)) (differences (shifted ρ.formal)) (differences (above (shifted ρ.formal) (ρ.of β))) (map ρ.of) fs (partial_consts ρ v) (partial_value ρ v) (partial_left ρ v)
           (Below R (suc n)) (Below R n) (power_slice (shifted ρ.formal) (ρ.of β) n) rows ρ.of ls (consts_of ρ v) (value_of ρ v) inner new

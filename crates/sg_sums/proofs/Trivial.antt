@@ -1,5 +1,5 @@
 -- Right sides that are 0: the element 1, and each constant with the element 0, are all solutions.
-use Rattle.std.proofs.Common.{◌≡◌, ℕ, zero, suc, ◌+◌, ◌<◌, ◌≤◌, refl, sym, ◌∙◌, subst, List, [], ◌∷◌, ◌++◌, map, length, take, get_or, arith}
+use Rattle.std.proofs.Common.{◌≡◌, ℕ, zero, suc, ◌+◌, ◌<◌, refl, sym, ◌∙◌, subst, List, [], ◌∷◌, ◌++◌, map, length, take, get_or, arith}
 use Rattle.sg_algebra.specs.Ring.{Ring}
 use Rattle.sg_algebra.specs.Coefficients.{Each}
 use Rattle.sg_algebra.proofs.Divides.{on-O, on-neg}
@@ -17,7 +17,7 @@ use Rattle.sg_tower_theory.proofs.Slices.{Space, IsState, differences}
 use Rattle.sg_tower_theory.proofs.Starting.{Starts, IsUnit, starts_push, state_start}
 use Rattle.sg_matrix.specs.declared.solution.Solution.{Solution}
 use Rattle.sg_tower.specs.Elements.{Reading, IsZero, IsOne, IsCopy, consts_of, value_of, AllSolve, IsComplete}
-use Rattle.sg_sums.specs.Polynomials.{ZeroFrom, IsOneRow, IsTrivial}
+use Rattle.sg_sums.specs.Polynomials.{ZeroFrom, IsTrivial}
 use Rattle.sg_sums.proofs.Building.{take_next, length_take, take_whole}
 
 behind : {A : Type 0} → A → (ℕ → A) → ℕ → A

@@ -3,7 +3,9 @@
 --   at_place ρ p n                the coefficient of p at n
 --   IsPlace ρ p n r               r is that coefficient
 --   ZeroFrom ρ p n                the coefficients from n on are 0
+--   IsSumAt, IsDifferenceAt ρ x y i r    r is the coefficient of x + y, of x - y, at i
 --   PolySum, PolyDifference, PolyProduct ρ x y r
+--   IsLowDifference ρ n x y r     r is x - y without the powers from n on
 --   PolyMultiple ρ e x r          r is the element e of the tower below times x
 --   PolyScaled ρ c x r            r is the constant c times x
 --   PolyBehind ρ a x r            r is a + t x
@@ -11,8 +13,11 @@
 --   PolyMonomial ρ n a r          r is a t^n
 --   IsExtended ρ v acc c row r    r is acc + c row, for a constant c: constants, value and what is left
 --   IsCombined ρ v β c rows r     r is the sum of the rows with constants as factors
---   State, Sides, Next ρ v β ..   what the recursion over the powers of t keeps, where t grows by β
+--   State, Sides ρ v β ..         what the recursion over the powers of t keeps, where t grows by β
 --   StartRows ρ v β fs rows       its start
+--   IsBare w r                    r is w with nothing left
+--   IsNextRow ρ v β n rows w r    r goes on from the combination of the rows by the constants of w, with the value of w times t^n; what is left is
+--                                 given below t^n, and has no power from n on
 --   IsFinished w s                s is w without what is left
 --   IsTrivial ρ v ls xs rows      rows for right sides ls that are 0: 1 without constants, and each constant of xs, the first of ls, with 0
 use Rattle.std.specs.Prelude.{◌≡◌, ℕ, suc, ◌<◌, ◌≤◌, List, [], ◌∷◌, length, map, get_or}
@@ -26,7 +31,7 @@ use Rattle.sg_algebra.proofs.Linear.{unit}
 use Rattle.sg_tower_theory.proofs.Difference.{total, mixed}
 use Rattle.sg_tower_theory.proofs.Above.{above, monomial}
 use Rattle.sg_algebra.proofs.Degree.{Below}
-use Rattle.sg_tower_theory.proofs.Slices.{Map, IsState, IsSides, IsNext, differences}
+use Rattle.sg_tower_theory.proofs.Slices.{Map, IsState, IsSides, differences}
 use Rattle.sg_tower_theory.proofs.PowerSlices.{power_slice}
 use Rattle.sg_tower_theory.proofs.Starting.{Starts}
 use Rattle.sg_tower_theory.proofs.Formal.{Element, elements, shifted}
@@ -51,11 +56,21 @@ module _ {d : ℕ} {E : Type 0} (ρ : Reading d E) where
   abbrev pub ZeroFrom : List E → ℕ → Type 0
   ZeroFrom p n = (i : ℕ) → n ≤ i → Same ρ (at_place p i) (elements ρ.formal).O
 
+  abbrev pub IsSumAt : List E → List E → ℕ → E → Type 0
+  IsSumAt x y i r = Same ρ (ρ.of r) ((elements ρ.formal).◌⊞◌ (at_place x i) (at_place y i))
+
+  abbrev pub IsDifferenceAt : List E → List E → ℕ → E → Type 0
+  IsDifferenceAt x y i r = Same ρ (ρ.of r) ((elements ρ.formal).◌⊞◌ (at_place x i) ((elements ρ.formal).⊟ (at_place y i)))
+
   abbrev pub PolySum : List E → List E → List E → Type 0
   PolySum x y r = PolysR.◌≈◌ (map ρ.of r) (PolysR.◌⊞◌ (map ρ.of x) (map ρ.of y))
 
   abbrev pub PolyDifference : List E → List E → List E → Type 0
   PolyDifference x y r = PolysR.◌≈◌ (map ρ.of r) (PolysR.◌⊞◌ (map ρ.of x) (PolysR.⊟ (map ρ.of y)))
+
+  pub record IsLowDifference (n : ℕ) (x y r : List E) : Type 0 where
+    pub size : length r ≡ n
+    pub low : (i : ℕ) → i < n → Same ρ (at_place r i) ((elements ρ.formal).◌⊞◌ (at_place x i) ((elements ρ.formal).⊟ (at_place y i)))
 
   abbrev pub PolyMultiple : Element ρ.formal → List E → List E → Type 0
   PolyMultiple c x r = PolysR.◌≈◌ (map ρ.of r) (PolysR.◌⊠◌ (c ∷ []) (map ρ.of x))
@@ -121,10 +136,11 @@ module _ {d : ℕ} {E : Type 0} (ρ : Reading d E) where
       Sides fs n rows ls =
           IsSides (shifted ρ.formal) (above (shifted ρ.formal) (ρ.of β)) inner outer (map ρ.of) fs partial_consts partial_value partial_left (Below (elements ρ.formal) (suc n)) (Below (elements ρ.formal) n) (power_slice (shifted ρ.formal) (ρ.of β) n) rows ρ.of ls (consts_of ρ v) (value_of ρ v)
 
-      -- r goes on from the combination of the rows by the constants of w, with the value of w times t^n added to its value
-      abbrev pub Next : List (List E) → ℕ → List (Partial K E) → List E → Solution K E → Partial K E → Type 0
-      Next fs n rows ls w r =
-          IsNext (shifted ρ.formal) (above (shifted ρ.formal) (ρ.of β)) inner outer (map ρ.of) fs partial_consts partial_value partial_left (Below (elements ρ.formal) (suc n)) (Below (elements ρ.formal) n) (power_slice (shifted ρ.formal) (ρ.of β) n) rows ρ.of ls (consts_of ρ v) (value_of ρ v) w r
+      pub record IsNextRow (n : ℕ) (rows : List (Partial K E)) (w : Solution K E) (r : Partial K E) : Type 0 where
+        pub coeffs : (i : ℕ) → partial_consts r i ≡ mixed (ValueR d) partial_consts (consts_of ρ v w) rows i
+        pub value : PolysR.◌≈◌ (partial_value r) (PolysR.◌⊞◌ (total (above (shifted ρ.formal) (ρ.of β)) partial_value (consts_of ρ v w) rows) (monomial (shifted ρ.formal) (ρ.of β) n (ρ.of w.value)))
+        pub low : (i : ℕ) → i < n → Same ρ (at_place r.left i) (coef (elements ρ.formal) (PolysR.◌⊞◌ (total (above (shifted ρ.formal) (ρ.of β)) partial_left (consts_of ρ v w) rows) (PolysR.⊟ (outer.linear.on (monomial (shifted ρ.formal) (ρ.of β) n (ρ.of w.value))))) i)
+        pub short : Below (elements ρ.formal) n (partial_left r)
 
       -- the start: for each right side its unit constants, no value, and the right side as what is left
       pub record IsStartRow (fs : List (List E)) (k : ℕ) (x : List E) (w : Partial K E) : Type 0 where
@@ -142,6 +158,11 @@ module _ {d : ℕ} {E : Type 0} (ρ : Reading d E) where
 
       abbrev pub StartRows : List (List E) → List (Partial K E) → Type 0
       StartRows fs rows = StartFrom fs 0 fs rows
+
+pub record IsBare {K E : Type 0} (w r : Partial K E) : Type 0 where
+  pub coeffs : r.coeffs ≡ w.coeffs
+  pub value : r.value ≡ w.value
+  pub left : r.left ≡ []
 
 pub record IsFinished {K E : Type 0} (w : Partial K E) (s : Solution K (List E)) : Type 0 where
   pub coeffs : s.coeffs ≡ w.coeffs

@@ -2,6 +2,7 @@
 #![tactic(auto)]
 
 mod constants;
+mod ending;
 mod partial;
 mod poly1;
 mod polys;

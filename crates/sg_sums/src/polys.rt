@@ -1,7 +1,7 @@
-ghost use Rattle.std.specs.Prelude.{◌≡◌, ℕ, IfOk, IfErr, [], ◌∷◌};
+ghost use Rattle.std.specs.Prelude.{◌≡◌, ℕ, ◌≤◌, IfOk, IfErr, [], ◌∷◌, length};
 ghost use Rattle.sg_num.specs.Stopped.{KeepsWideStep};
 ghost use Rattle.sg_tower.specs.Elements.{IsSum, IsDifference, IsProduct};
-ghost use Rattle.sg_sums.specs.Polynomials.{IsPlace, PolySum, PolyDifference, PolyMultiple, PolyScaled, PolyBehind, PolyMonomial, PolyProduct, IsOwn};
+ghost use Rattle.sg_sums.specs.Polynomials.{IsPlace, IsSumAt, IsDifferenceAt, PolySum, PolyDifference, IsLowDifference, PolyMultiple, PolyScaled, PolyMonomial, PolyProduct, IsOwn};
 
 use sg_num::{Field, Row, Stop};
 use sg_tower::Tower;
@@ -38,25 +38,87 @@ pub(crate) fn added<T: Tower>(
 {
     let mut r = Row::new(alloc);
     for i in 0..x.len().max(y.len()) {
-        let a = coefficient(alloc, below, x, i)?;
-        let b = coefficient(alloc, below, y, i)?;
-        r.push(sum_of(alloc, below, a, b)?)?;
+        r.push(sum_at(alloc, below, x, y, i)?)?;
     }
     Ok(r)
 }
 
-// x + y; no step is taken where one of them is 0.
-fn sum_of<T: Tower>(alloc: Global, below: &T, x: T::Elem, y: T::Elem) -> Result<T::Elem, Stop>
-    ensures value { IfOk result (IsSum (T.reading T.K.vars T.K.val below.now) x y) }
+// The coefficient of x + y at `i`.
+fn sum_at<T: Tower>(
+    alloc: Global,
+    below: &T,
+    x: &Row<T::Elem>,
+    y: &Row<T::Elem>,
+    i: usize,
+) -> Result<T::Elem, Stop>
+    ensures value { IfOk result (IsSumAt (T.reading T.K.vars T.K.val below.now) x.now y.now i) }
     ensures wide { IfErr result KeepsWideStep }
 {
-    if below.is_zero(&x) {
-        return Ok(y);
+    if i >= x.len() {
+        let b = coefficient(alloc, below, y, i)?;
+        return Ok(b);
     }
-    if below.is_zero(&y) {
-        return Ok(x);
+    if i >= y.len() {
+        let a = coefficient(alloc, below, x, i)?;
+        return Ok(a);
     }
-    let r = below.add(alloc, &x, &y)?;
+    let r = sum_of(alloc, below, x.get(i), y.get(i))?;
+    Ok(r)
+}
+
+// x + y; no step is taken where one of them is 0.
+fn sum_of<T: Tower>(alloc: Global, below: &T, x: &T::Elem, y: &T::Elem) -> Result<T::Elem, Stop>
+    ensures value { IfOk result (IsSum (T.reading T.K.vars T.K.val below.now) x.now y.now) }
+    ensures wide { IfErr result KeepsWideStep }
+{
+    if below.is_zero(x) {
+        let b = below.copy(alloc, y)?;
+        return Ok(b);
+    }
+    if below.is_zero(y) {
+        let a = below.copy(alloc, x)?;
+        return Ok(a);
+    }
+    let r = below.add(alloc, x, y)?;
+    Ok(r)
+}
+
+// x + y, of which neither is asked for any more: the longer one is added to.
+pub(crate) fn joined<T: Tower>(
+    alloc: Global,
+    below: &T,
+    x: Row<T::Elem>,
+    y: Row<T::Elem>,
+) -> Result<Row<T::Elem>, Stop>
+    ensures value { IfOk result (PolySum (T.reading T.K.vars T.K.val below.now) x y) }
+    ensures wide { IfErr result KeepsWideStep }
+{
+    if x.len() < y.len() {
+        let turned = onto(alloc, below, y, &x)?;
+        return Ok(turned);
+    }
+    let r = onto(alloc, below, x, &y)?;
+    Ok(r)
+}
+
+// x + y in the place of x, which is no shorter than y.
+fn onto<T: Tower>(
+    alloc: Global,
+    below: &T,
+    x: Row<T::Elem>,
+    y: &Row<T::Elem>,
+) -> Result<Row<T::Elem>, Stop>
+    requires { length y.now ≤ length x }
+    ensures value { IfOk result (PolySum (T.reading T.K.vars T.K.val below.now) x y.now) }
+    ensures wide { IfErr result KeepsWideStep }
+{
+    let mut r = x;
+    for i in 0..y.len() {
+        if !below.is_zero(y.get(i)) {
+            let s = sum_of(alloc, below, r.get(i), y.get(i))?;
+            r.set(i, s);
+        }
+    }
     Ok(r)
 }
 
@@ -72,10 +134,50 @@ pub(crate) fn subtracted<T: Tower>(
 {
     let mut r = Row::new(alloc);
     for i in 0..x.len().max(y.len()) {
-        let a = coefficient(alloc, below, x, i)?;
-        let b = coefficient(alloc, below, y, i)?;
-        r.push(difference_of(alloc, below, a, b)?)?;
+        r.push(difference_at(alloc, below, x, y, i)?)?;
     }
+    Ok(r)
+}
+
+// The coefficients of x - y below `n`.
+pub(crate) fn low_difference<T: Tower>(
+    alloc: Global,
+    below: &T,
+    n: usize,
+    x: &Row<T::Elem>,
+    y: &Row<T::Elem>,
+) -> Result<Row<T::Elem>, Stop>
+    ensures value { IfOk result (IsLowDifference (T.reading T.K.vars T.K.val below.now) n x.now y.now) }
+    ensures wide { IfErr result KeepsWideStep }
+{
+    let mut r = Row::new(alloc);
+    for i in 0..n {
+        r.push(difference_at(alloc, below, x, y, i)?)?;
+    }
+    Ok(r)
+}
+
+// The coefficient of x - y at `i`.
+fn difference_at<T: Tower>(
+    alloc: Global,
+    below: &T,
+    x: &Row<T::Elem>,
+    y: &Row<T::Elem>,
+    i: usize,
+) -> Result<T::Elem, Stop>
+    ensures value { IfOk result (IsDifferenceAt (T.reading T.K.vars T.K.val below.now) x.now y.now i) }
+    ensures wide { IfErr result KeepsWideStep }
+{
+    if i >= y.len() {
+        let a = coefficient(alloc, below, x, i)?;
+        return Ok(a);
+    }
+    if i >= x.len() {
+        let zero = below.zero(alloc)?;
+        let b = difference_of(alloc, below, &zero, y.get(i))?;
+        return Ok(b);
+    }
+    let r = difference_of(alloc, below, x.get(i), y.get(i))?;
     Ok(r)
 }
 
@@ -83,16 +185,17 @@ pub(crate) fn subtracted<T: Tower>(
 fn difference_of<T: Tower>(
     alloc: Global,
     below: &T,
-    x: T::Elem,
-    y: T::Elem,
+    x: &T::Elem,
+    y: &T::Elem,
 ) -> Result<T::Elem, Stop>
-    ensures value { IfOk result (IsDifference (T.reading T.K.vars T.K.val below.now) x y) }
+    ensures value { IfOk result (IsDifference (T.reading T.K.vars T.K.val below.now) x.now y.now) }
     ensures wide { IfErr result KeepsWideStep }
 {
-    if below.is_zero(&y) {
-        return Ok(x);
+    if below.is_zero(y) {
+        let a = below.copy(alloc, x)?;
+        return Ok(a);
     }
-    let r = below.sub(alloc, &x, &y)?;
+    let r = below.sub(alloc, x, y)?;
     Ok(r)
 }
 
@@ -126,7 +229,7 @@ fn product_of<T: Tower>(alloc: Global, below: &T, x: &T::Elem, y: &T::Elem) -> R
     Ok(r)
 }
 
-// Each coefficient times a constant.
+// Each coefficient times a constant; no step is taken where it is 1.
 pub(crate) fn scaled<T: Tower>(
     alloc: Global,
     below: &T,
@@ -136,6 +239,12 @@ pub(crate) fn scaled<T: Tower>(
     ensures value { IfOk result (PolyScaled (T.reading T.K.vars T.K.val below.now) (T.K.val c.now) x.now) }
     ensures wide { IfErr result KeepsWideStep }
 {
+    let one = T::K::one(alloc)?;
+    let is_one = c.same(alloc, &one)?;
+    if is_one {
+        let same = added(alloc, below, &Row::new(alloc), x)?;
+        return Ok(same);
+    }
     let mut r = Row::new(alloc);
     for i in 0..x.len() {
         r.push(below.scale(alloc, c, x.get(i))?)?;
@@ -154,19 +263,12 @@ pub(crate) fn single<E: Drop>(alloc: Global, a: E) -> Result<Row<E>, Stop>
 }
 
 // a + t x.
-pub(crate) fn behind<T: Tower>(
-    alloc: Global,
-    below: &T,
-    a: T::Elem,
-    x: &Row<T::Elem>,
-) -> Result<Row<T::Elem>, Stop>
-    ensures value { IfOk result (PolyBehind (T.reading T.K.vars T.K.val below.now) a x.now) }
+pub(crate) fn behind<E: Drop>(a: E, x: Row<E>) -> Result<Row<E>, Stop>
+    ensures value { IfOk result (λ r. r ≡ a ∷ x) }
     ensures wide { IfErr result KeepsWideStep }
 {
-    let mut r = single(alloc, a)?;
-    for i in 0..x.len() {
-        r.push(below.copy(alloc, x.get(i))?)?;
-    }
+    let mut r = x;
+    r.insert(0, a)?;
     Ok(r)
 }
 
@@ -184,7 +286,7 @@ pub(crate) fn monomial<T: Tower>(
     let mut r = single(alloc, lead)?;
     for _ in 0..n {
         let zero = below.zero(alloc)?;
-        r = behind(alloc, below, zero, &r)?;
+        r = behind(zero, r)?;
     }
     Ok(r)
 }
@@ -202,9 +304,9 @@ pub(crate) fn product<T: Tower>(
     let mut r = Row::new(alloc);
     for i in 0..x.len() {
         let zero = below.zero(alloc)?;
-        let higher = behind(alloc, below, zero, &r)?;
+        let higher = behind(zero, r)?;
         let own = times(alloc, below, x.get(x.len() - 1 - i), y)?;
-        r = added(alloc, below, &own, &higher)?;
+        r = joined(alloc, below, own, higher)?;
     }
     Ok(r)
 }

@@ -8,12 +8,12 @@ ghost use Rattle.sg_num.specs.Stopped.{KeepsWideStep};
 ghost use Rattle.sg_tower_theory.proofs.Formal.{shifted, elements, one_more};
 ghost use Rattle.sg_tower_theory.proofs.Difference.{Solves, Spanned};
 ghost use Rattle.sg_tower.specs.Elements.{raised, AllSolve, IsComplete, IsShifted};
-ghost use Rattle.sg_sums.specs.Polynomials.{IsPlace, ConstantsPlus, IsExtended, IsCombined, State, Sides, Next, StartRows, IsFinished};
+ghost use Rattle.sg_sums.specs.Polynomials.{IsPlace, ConstantsPlus, IsExtended, IsCombined, State, Sides, IsNextRow, StartRows, IsFinished};
 
 use crate::constants::all_solutions;
 use crate::partial::Partial;
 use crate::poly1::Poly1;
-use crate::polys::{added, behind, coefficient, monomial, scaled, subtracted, times};
+use crate::polys::{added, behind, coefficient, joined, low_difference, monomial, scaled, times};
 use sg_matrix::Solution;
 use sg_num::{Field, Row, Stop};
 use sg_tower::Tower;
@@ -32,9 +32,9 @@ pub(crate) fn shifted_poly<T: Tower>(
     let mut r = Row::new(alloc);
     for i in 0..x.len() {
         let a = below.shift(alloc, x.get(x.len() - 1 - i))?;
-        let moved = behind(alloc, below, a, &r)?;
         let product = times(alloc, below, beta, &r)?;
-        r = added(alloc, below, &moved, &product)?;
+        let moved = behind(a, r)?;
+        r = joined(alloc, below, moved, product)?;
     }
     Ok(r)
 }
@@ -91,7 +91,7 @@ pub(crate) fn lowered<T: Tower>(
 {
     let ls = sides(alloc, below, beta, fs, n, rows)?;
     let inner = all_solutions(alloc, below, &ls)?;
-    let new = all_next(alloc, below, beta, fs, n, rows, &ls, &inner)?;
+    let new = all_next(alloc, below, beta, n, rows, &inner)?;
     Ok(new)
 }
 
@@ -128,7 +128,7 @@ fn unit_entry<F: Field>(alloc: Global, i: usize, j: usize) -> Result<F, Stop>
 }
 
 // The coefficients at `n` of what is left.
-fn sides<T: Tower>(
+pub(crate) fn sides<T: Tower>(
     alloc: Global,
     below: &T,
     beta: &T::Elem,
@@ -152,42 +152,37 @@ fn all_next<T: Tower>(
     alloc: Global,
     below: &T,
     beta: &T::Elem,
-    fs: &Row<Poly1<T::Elem>>,
     n: usize,
     rows: &Row<Partial<T::K, T::Elem>>,
-    ls: &Row<T::Elem>,
     inner: &Row<Solution<T::K, T::Elem>>,
 ) -> Result<Row<Partial<T::K, T::Elem>>, Stop>
-    ensures value { IfOk result (λ new. Pairwise (Next (T.reading T.K.vars T.K.val below.now) T.K.val beta.now fs.now n rows.now ls.now) inner.now new) }
+    ensures value { IfOk result (λ new. Pairwise (IsNextRow (T.reading T.K.vars T.K.val below.now) T.K.val beta.now n rows.now) inner.now new) }
     ensures wide { IfErr result KeepsWideStep }
 {
     let mut new = Row::new(alloc);
     for i in 0..inner.len() {
-        new.push(next(alloc, below, beta, fs, n, rows, ls, inner.get(i))?)?;
+        new.push(next(alloc, below, beta, n, rows, inner.get(i))?)?;
     }
     Ok(new)
 }
 
-// The row that goes on by v t^n.
+// The row that goes on by v t^n. What it leaves has no power from n on, so only the powers below are computed.
 fn next<T: Tower>(
     alloc: Global,
     below: &T,
     beta: &T::Elem,
-    fs: &Row<Poly1<T::Elem>>,
     n: usize,
     rows: &Row<Partial<T::K, T::Elem>>,
-    ls: &Row<T::Elem>,
     v: &Solution<T::K, T::Elem>,
 ) -> Result<Partial<T::K, T::Elem>, Stop>
-    ensures value { IfOk result (Next (T.reading T.K.vars T.K.val below.now) T.K.val beta.now fs.now n rows.now ls.now v.now) }
+    ensures value { IfOk result (IsNextRow (T.reading T.K.vars T.K.val below.now) T.K.val beta.now n rows.now v.now) }
     ensures wide { IfErr result KeepsWideStep }
 {
     let sum = combined(alloc, below, beta, &v.coeffs, rows)?;
     let power = monomial(alloc, below, n, &v.value)?;
     let moved = shifted_poly(alloc, below, beta, &power)?;
-    let difference = subtracted(alloc, below, &moved, &power)?;
-    let value = added(alloc, below, &sum.value, &power)?;
-    let left = subtracted(alloc, below, &sum.left, &difference)?;
+    let value = joined(alloc, below, sum.value, power)?;
+    let left = low_difference(alloc, below, n, &sum.left, &moved)?;
     Ok(Partial {
         coeffs: sum.coeffs,
         value,
@@ -196,7 +191,7 @@ fn next<T: Tower>(
 }
 
 // The sum of the rows with constants as factors.
-fn combined<T: Tower>(
+pub(crate) fn combined<T: Tower>(
     alloc: Global,
     below: &T,
     beta: &T::Elem,
@@ -248,9 +243,9 @@ fn extended<T: Tower>(
     }
     let coeffs = plus_constants(alloc, &acc.coeffs, c, &row.coeffs)?;
     let more = scaled(alloc, below, c, &row.value)?;
-    let value = added(alloc, below, &acc.value, &more)?;
+    let value = joined(alloc, below, acc.value, more)?;
     let rest = scaled(alloc, below, c, &row.left)?;
-    let left = added(alloc, below, &acc.left, &rest)?;
+    let left = joined(alloc, below, acc.left, rest)?;
     Ok(Partial {
         coeffs,
         value,

@@ -5,6 +5,7 @@ ghost use Rattle.sg_num.specs.Stopped.{KeepsWideStep};
 ghost use Rattle.sg_tower.specs.Elements.{IsNewSum};
 ghost use Rattle.sg_sums.specs.Polynomials.{ZeroFrom};
 
+use crate::ending::ended;
 use crate::partial::Partial;
 use crate::poly1::Poly1;
 use crate::polys::{added, coefficient, own, product, scaled, single, subtracted};
@@ -195,11 +196,12 @@ impl<T: Tower> Tower for SumExt<T> {
     ) -> Result<Row<Solution<T::K, Poly1<T::Elem>>>, Stop> {
         let degree = greatest_length(&self.below, fs);
         let first = start(alloc, &self.below, &self.beta, fs)?;
-        let mut rows = lowered(alloc, &self.below, &self.beta, fs, degree, &first)?;
+        let mut rows = first;
         for i in 0..degree {
-            rows = lowered(alloc, &self.below, &self.beta, fs, degree - 1 - i, &rows)?;
+            rows = lowered(alloc, &self.below, &self.beta, fs, degree - i, &rows)?;
         }
-        let answer = finished(alloc, rows)?;
+        let last = ended(alloc, &self.below, &self.beta, fs, rows)?;
+        let answer = finished(alloc, last)?;
         Ok(answer)
     }
 

@@ -1,12 +1,11 @@
 use Rattle.std.proofs.Common.{arith}
 use Rattle.sg_tower_theory.proofs.Formal.{elements}
 use Rattle.sg_sums.proofs.Building.{builds_push}
-use Rattle.sg_sums.proofs.Steps.{sum_built, sum_step}
+use Rattle.sg_sums.proofs.Steps.{sum_built}
 use Rattle.sg_sums.proofs.polys.added.Goals as goal
 
 pub loop-i-preserved : goal.loop-i-preserved
-loop-i-preserved g c = builds_push (elements (g.T.Tower.reading g.T.K.Field.vars g.T.K.Field.val c.args.below.now).formal) (g.T.Tower.reading g.T.K.Field.vars g.T.K.Field.val c.args.below.now).of _ c.loop-i.i c.loop-i.r _ _ c.loop-i.invariant
-    (sum_step (g.T.Tower.reading g.T.K.Field.vars g.T.K.Field.val c.args.below.now) c.args.x.now c.args.y.now c.loop-i.i c.in_ok-a.a c.in_ok-b.b _ c.in_ok-sum_of.ensures.value c.in_ok-a.ensures.value c.in_ok-b.ensures.value) c.in_ok-push.ensures.ok
+loop-i-preserved g c = builds_push (elements (g.T.Tower.reading g.T.K.Field.vars g.T.K.Field.val c.args.below.now).formal) (g.T.Tower.reading g.T.K.Field.vars g.T.K.Field.val c.args.below.now).of _ c.loop-i.i c.loop-i.r _ _ c.loop-i.invariant c.in_ok-sum_at.ensures.value c.in_ok-push.ensures.ok
 
 pub returns-clause-value : goal.returns-clause-value
 returns-clause-value g c = sum_built (g.T.Tower.reading g.T.K.Field.vars g.T.K.Field.val c.args.below.now) c.args.x.now c.args.y.now c.loop-i.r c.loop-i.i c.loop-i.invariant (omega arith) (omega arith)

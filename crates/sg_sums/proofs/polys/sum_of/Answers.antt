@@ -2,7 +2,7 @@ use Rattle.sg_sums.proofs.Skipping.{sum_left, sum_right}
 use Rattle.sg_sums.proofs.polys.sum_of.Goals as goal
 
 pub returns-then-is_zero-clause-value : goal.returns-then-is_zero-clause-value
-returns-then-is_zero-clause-value g c = sum_left (g.T.Tower.reading g.T.K.Field.vars g.T.K.Field.val c.args.below.now) c.args.x c.args.y (c.is_zero.ensures.0 c.if-is_zero.true)
+returns-then-is_zero-clause-value g c = sum_left (g.T.Tower.reading g.T.K.Field.vars g.T.K.Field.val c.args.below.now) c.args.x.now c.args.y.now c.in_ok-b.b (c.is_zero.ensures.0 c.if-is_zero.true) c.in_ok-b.ensures.value
 
 pub returns-then-is_zero-2-clause-value : goal.returns-then-is_zero-2-clause-value
-returns-then-is_zero-2-clause-value g c = sum_right (g.T.Tower.reading g.T.K.Field.vars g.T.K.Field.val c.args.below.now) c.args.x c.args.y (c.is_zero-2.ensures.0 c.if-is_zero-2.true)
+returns-then-is_zero-2-clause-value g c = sum_right (g.T.Tower.reading g.T.K.Field.vars g.T.K.Field.val c.args.below.now) c.args.x.now c.args.y.now c.in_ok-a.a (c.is_zero-2.ensures.0 c.if-is_zero-2.true) c.in_ok-a.ensures.value

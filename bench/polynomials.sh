@@ -17,7 +17,7 @@ cd "$(dirname "$0")/.."
 room=$(mktemp -d)
 trap 'rm -rf "$room"' EXIT
 mkdir "$room/crates"
-for crate in sg_algebra sg_spec sg_num sg_poly sg_matrix sg_roots sg_ratfun sg_theory sg_spread; do
+for crate in sg_algebra sg_spec sg_num sg_poly sg_matrix sg_roots sg_ratfun sg_dispersion_theory sg_spread; do
     cp -a "crates/$crate" "$room/crates"
     grep "^$crate:" crates.txt >> "$room/crates.txt"
 done

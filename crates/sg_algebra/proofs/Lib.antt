@@ -43,3 +43,4 @@ pub mod Rows
 pub mod Tables
 pub mod Linear
 pub mod NullSpace
+pub mod ShiftValue

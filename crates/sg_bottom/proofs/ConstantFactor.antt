@@ -16,8 +16,8 @@ use Rattle.sg_algebra.proofs.Value.{Value, over_value, zero_value, one_value, â—
 use Rattle.sg_algebra.proofs.ValueField.{ValueR, ValueF, ValueD, value_is_zero}
 use Rattle.sg_algebra.proofs.OverValue.{over_value_cong, over_value-zero, over_value-mul, same_over_value}
 use Rattle.sg_algebra.proofs.Embedding.{constant_value, constant_value_zero, constant_valueH, numeral_ne}
-use Rattle.sg_shift.proofs.ShiftValue.{shift_value, shift_value-over, moved_ne}
-use Rattle.sg_first_order.proofs.Parts.{upper, lower, parts_are, lower_ne}
+use Rattle.sg_algebra.proofs.ShiftValue.{shift_value, shift_value-over, moved_ne}
+use Rattle.sg_first_order_theory.proofs.Parts.{upper, lower, parts_are, lower_ne}
 use Rattle.sg_tower_theory.specs.Powers.{powers}
 use Rattle.sg_tower_theory.proofs.Products.{AllZero}
 use Rattle.sg_tower_theory.proofs.Formal.{IndependentFactors, independent_factors}

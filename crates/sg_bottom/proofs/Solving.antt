@@ -8,11 +8,11 @@ use Rattle.sg_algebra.proofs.Lists.{each_to}
 use Rattle.sg_algebra.proofs.Value.{Value, one_value, neg_value, ◌+ᵛ◌, ◌*ᵛ◌}
 use Rattle.sg_algebra.proofs.ValueField.{value_mul_comm, value_mul-one}
 use Rattle.sg_algebra.proofs.Polynomial.{coefficient}
-use Rattle.sg_shift.proofs.ShiftValue.{shift_value}
+use Rattle.sg_algebra.proofs.ShiftValue.{shift_value}
 use Rattle.sg_tower_theory.proofs.Difference.{total}
 use Rattle.sg_tower_theory.proofs.ShiftValue.{rational_functions}
-use Rattle.sg_first_order.specs.Solutions.{pair, IsBasis}
-use Rattle.sg_bottom_theory.proofs.FirstOrder.{inner_sound, inner_complete}
+use Rattle.sg_first_order_theory.specs.Solutions.{pair, IsBasis}
+use Rattle.sg_products.proofs.FirstOrder.{inner_sound, inner_complete}
 use Rattle.sg_matrix.specs.declared.solution.Solution.{Solution}
 use Rattle.sg_ratfun.specs.Fractions.{ratio}
 use Rattle.sg_laurent.specs.declared.terms.Term.{Term}

@@ -4,7 +4,7 @@
 --   AreRaised v rows rs     the solutions rs are the solutions rows, with elements for rational functions
 use Rattle.std.specs.Prelude.{◌≡◌, ℕ, suc, List, map}
 use Rattle.sg_algebra.proofs.Value.{Value}
-use Rattle.sg_first_order.specs.Solutions.{Pair, pair}
+use Rattle.sg_first_order_theory.specs.Solutions.{Pair, pair}
 use Rattle.sg_matrix.specs.declared.solution.Solution.{Solution}
 use Rattle.sg_ratfun.specs.Fractions.{ratio}
 use Rattle.sg_laurent.specs.declared.terms.Term.{Term}

@@ -15,7 +15,7 @@ use Rattle.sg_spec.specs.Generators.{Over, BuiltOver}
 use Rattle.sg_spec.specs.Printing.{InForm}
 use Rattle.sg_spec.specs.Shape.{is_divisor_tree}
 use Rattle.sg_spec.specs.Canonical.{Plane, Written, element_tree, ranks, Descending, IsAfter, IsLowest, IsCanonicalOver}
-use Rattle.sg_written.proofs.Building.{NoParameter, over-element, over-products, element-printed, Known}
+use Rattle.sg_worth_theory.proofs.Building.{NoParameter, over-element, over-products, element-printed, Known}
 use Rattle.sg_tower_theory.proofs.Formal.{Formal, Element}
 use Rattle.sg_tower_theory.proofs.Flat.{Term, DescendingTerms, IsAfter as ComesAfter}
 use Rattle.sg_build.specs.Letters.{LawsOfForms}

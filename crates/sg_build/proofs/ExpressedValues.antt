@@ -13,8 +13,8 @@ use Rattle.sg_algebra.proofs.ValueField.{ValueR, ValueF, value_mul-inv}
 use Rattle.sg_spec.specs.Tree.{Tree}
 use Rattle.sg_spec.specs.Worth.{HasWorth}
 use Rattle.sg_spec.specs.Canonical.{Plane, Written, raised_factor, upper_factor, lower_factor, factors}
-use Rattle.sg_written.proofs.WrittenTerms.{IsProduct, IsInverse, product-append, factor-product}
-use Rattle.sg_written.proofs.WrittenElements.{plane_value, powers_value, HasTerms, HasCoefficient, element-worth}
+use Rattle.sg_worth_theory.proofs.WrittenTerms.{IsProduct, IsInverse, product-append, factor-product}
+use Rattle.sg_worth_theory.proofs.WrittenElements.{plane_value, powers_value, HasTerms, HasCoefficient, element-worth}
 use Rattle.sg_tower_theory.proofs.Formal.{Formal, Element}
 use Rattle.sg_tower_theory.proofs.Flat.{Term}
 use Rattle.sg_value_theory.proofs.Elements.{Point, IsQuotientAt}

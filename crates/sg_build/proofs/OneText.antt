@@ -16,7 +16,7 @@ use Rattle.sg_value_theory.proofs.Evaluations.{evaluation}
 use Rattle.sg_value_theory.proofs.First.{zero_only}
 use Rattle.sg_value_theory.proofs.FormalPlaces.{IsRun, places_along}
 use Rattle.sg_value_theory.proofs.TreePoints.{IsPointOf}
-use Rattle.sg_written.proofs.Worths.{worth_unique}
+use Rattle.sg_worth_theory.proofs.Worths.{worth_unique}
 use Rattle.sg_build.specs.Letters.{LawsOfForms}
 use Rattle.sg_build.specs.Expressions.{IsWrittenTerm, IsExpression, ExpressesOver}
 

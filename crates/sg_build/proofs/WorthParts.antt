@@ -11,7 +11,7 @@ use Rattle.sg_algebra.proofs.ValueField.{ValueR}
 use Rattle.sg_spec.specs.Tree.{Tree, add, mul, div}
 use Rattle.sg_spec.specs.Worth.{IsFolded, HasWorth}
 use Rattle.sg_build.specs.Found.{Finds, IsBoth}
-use Rattle.sg_written.proofs.Worths.{worth_unique}
+use Rattle.sg_worth_theory.proofs.Worths.{worth_unique}
 
 module _ {K : Type 0} {d : ℕ} (v : K → Value d) (letter : Value d) (k : ℤ) (s t : Tree) where
   pub found-sum : (x y o : Option K) → Finds v (HasWorth letter s k) x → Finds v (HasWorth letter t k) y → IsBoth v ◌+ᵛ◌ x y o → Finds v (HasWorth letter (add s t) k) o

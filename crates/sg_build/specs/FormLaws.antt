@@ -13,8 +13,8 @@ use Rattle.sg_algebra.proofs.Value.{Value, ◌*ᵛ◌, inv_value, zero_value, ov
 use Rattle.sg_algebra.proofs.ValueField.{ValueR}
 use Rattle.sg_ratfun.proofs.Coprimes.{lowest_parts}
 use Rattle.sg_spec.specs.Canonical.{Plane, plane_of, leading, IsLowest}
-use Rattle.sg_written.proofs.Building.{NoParameter}
-use Rattle.sg_written.proofs.WrittenElements.{plane_value}
+use Rattle.sg_worth_theory.proofs.Building.{NoParameter}
+use Rattle.sg_worth_theory.proofs.WrittenElements.{plane_value}
 use Rattle.sg_value_theory.proofs.Elements.{IsQuotientAt}
 use Rattle.sg_canonical.specs.Whole.{IsPrimitiveQuotient}
 use Rattle.sg_canonical.proofs.Lowest.{IsApart, number-of, number-is, lead-some, whole-apart, whole-lowest}

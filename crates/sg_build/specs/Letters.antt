@@ -8,8 +8,8 @@ use Rattle.sg_algebra.proofs.Value.{Value, ◌*ᵛ◌, inv_value, zero_value, on
 use Rattle.sg_algebra.proofs.Rational.{whole_value}
 use Rattle.sg_spec.specs.Tree.{Tree, numeral, here, param, add, neg, mul, div, power, sum_from, prod_from}
 use Rattle.sg_spec.specs.Canonical.{Plane, IsLowest}
-use Rattle.sg_written.proofs.Building.{NoParameter}
-use Rattle.sg_written.proofs.WrittenElements.{plane_value}
+use Rattle.sg_worth_theory.proofs.Building.{NoParameter}
+use Rattle.sg_worth_theory.proofs.WrittenElements.{plane_value}
 use Rattle.sg_value_theory.proofs.Elements.{IsQuotientAt}
 
 abbrev pub letter : (d : ℕ) → Value d

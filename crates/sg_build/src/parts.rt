@@ -39,24 +39,13 @@ fn part<K: Letters>(alloc: Global, products: usize, t: &FlatTerm<K>) -> Result<P
 {
     let quotient = K::whole_form(alloc, &t.coeff)?;
     let (first, last) = t.exps.as_slice().split_at(products);
-    let exponents = copied(alloc, first)?;
+    let exponents = Row::from_slice(alloc, first)?;
     let powers = powers(alloc, last)?;
     Ok(Part {
         powers,
         exponents,
         quotient,
     })
-}
-
-// A copy.
-fn copied(alloc: Global, list: &[i128]) -> Result<Row<i128>, AllocError>
-    ensures { IfOk result (λ r. r ≡ list.now) }
-{
-    let mut row = Row::new(alloc);
-    for e in list {
-        row.push(*e)?;
-    }
-    Ok(row)
 }
 
 // The powers, the last first.

@@ -19,9 +19,8 @@ use Rattle.sg_num.proofs.Numbers.{den-positive, number-whole}
 use Rattle.sg_num.specs.Value.{fraction, number}
 use Rattle.sg_num.specs.declared.rat.Rat.{Rat}
 use Rattle.sg_spec.specs.Fraction.{whole}
-use Rattle.sg_spec.specs.Polynomials.{common_divisor}
 use Rattle.sg_num.proofs.WholeSteps.{whole_value-mul}
-use Rattle.sg_canonical.specs.Whole.{IsCommon, wholes, multiplied}
+use Rattle.sg_canonical.specs.Whole.{IsCommon, wholes, multiplied, common_divisor}
 
 -- ---- The common divisor
 

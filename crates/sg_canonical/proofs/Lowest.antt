@@ -16,7 +16,7 @@ use Rattle.sg_algebra.proofs.Solver.{ring, reads}
 use Rattle.sg_algebra.proofs.Value.{Value, ◌*ᵛ◌, inv_value, zero_value, one_value}
 use Rattle.sg_algebra.proofs.ValueField.{ValueR, ValueD, value_mul-inv}
 use Rattle.sg_canonical.proofs.Writing.{both_ne}
-use Rattle.sg_written.proofs.Planes.{V, N, S, constants, unit-number, plane-is, entries-is}
+use Rattle.sg_worth_theory.proofs.Planes.{V, N, S, constants, unit-number, plane-is, entries-is}
 use Rattle.sg_canonical.proofs.WholeQuotients.{whole-same}
 use Rattle.std.proofs.lemmas.Int.{ints}
 use Rattle.sg_spec.specs.Canonical.{IsLowest, Planes, plane_polynomial, entries, leading, content, plane_of}

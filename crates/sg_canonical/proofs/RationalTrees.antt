@@ -32,13 +32,13 @@ use Rattle.sg_spec.specs.Printing.{InForm}
 use Rattle.sg_num.specs.Value.{number}
 use Rattle.sg_num.specs.declared.rat.Rat.{Rat}
 use Rattle.sg_poly.specs.Divisors.{IsMonic}
-use Rattle.sg_theory.proofs.ValueCertificate.{monic_length}
+use Rattle.sg_dispersion_theory.proofs.ValueCertificate.{monic_length}
 use Rattle.sg_ratfun.specs.Reduced.{IsReduced}
 use Rattle.sg_ratfun.proofs.Coprimes.{lowest_parts}
 use Rattle.sg_spec.specs.Canonical.{Written, IsLowest, IsCanonicalOver, element_tree, total_tree, of_coefficient, lower_factors, plane_of, leading}
 use Rattle.sg_spec.specs.Worth.{HasWorth}
-use Rattle.sg_written.proofs.Building.{NoParameter, over-element, element-form}
-use Rattle.sg_written.proofs.WrittenElements.{plane_value, HasTerms, element-worth}
+use Rattle.sg_worth_theory.proofs.Building.{NoParameter, over-element, element-form}
+use Rattle.sg_worth_theory.proofs.WrittenElements.{plane_value, HasTerms, element-worth}
 use Rattle.sg_canonical.specs.Rational.{quotient_terms, IsRationalTree}
 use Rattle.sg_canonical.specs.Whole.{IsPrimitiveQuotient, wholes, multiplied}
 use Rattle.sg_canonical.proofs.Lowest.{IsApart, number-of, number-is, lead-some, whole-apart, whole-lowest}

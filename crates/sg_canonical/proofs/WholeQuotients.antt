@@ -17,9 +17,8 @@ use Rattle.sg_algebra.proofs.Value.{Value, ◌*ᵛ◌, zero_value, one_value}
 use Rattle.sg_algebra.proofs.ValueField.{ValueR, value_one_ne}
 use Rattle.sg_num.specs.Value.{number}
 use Rattle.sg_num.specs.declared.rat.Rat.{Rat}
-use Rattle.sg_spec.specs.Polynomials.{common_divisor}
 use Rattle.sg_spec.specs.Canonical.{content, leading, plane_of}
-use Rattle.sg_canonical.specs.Whole.{IsCommon, IsPrimitiveQuotient, wholes, multiplied}
+use Rattle.sg_canonical.specs.Whole.{IsCommon, IsPrimitiveQuotient, wholes, multiplied, common_divisor}
 use Rattle.sg_canonical.proofs.CommonDenominator.{divides-all, divisor-denominator, divisor-each, reverse-cons}
 
 pub whole-same : (m n : ℤ) → whole_value 0 m ≡ whole_value 0 n → m ≡ n

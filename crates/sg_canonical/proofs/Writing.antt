@@ -17,7 +17,7 @@ use Rattle.sg_algebra.proofs.Value.{Value, ◌+ᵛ◌, ◌*ᵛ◌, ◌/ᵛ◌, i
 use Rattle.sg_algebra.proofs.ValueField.{ValueR, ValueD, value_mul-inv, value_one_ne}
 use Rattle.sg_spec.specs.Canonical.{leading, plane_of}
 use Rattle.sg_algebra.proofs.Field.{product_ne}
-use Rattle.sg_written.proofs.WrittenElements.{row_value, plane_value}
+use Rattle.sg_worth_theory.proofs.WrittenElements.{row_value, plane_value}
 use Rattle.sg_canonical.specs.Whole.{IsPrimitiveQuotient, wholes, multiplied}
 use Rattle.sg_canonical.proofs.CommonDenominator.{reverse-cons}
 use Rattle.sg_canonical.proofs.WholeQuotients.{whole-same}

@@ -23,23 +23,11 @@ pub fn primitive_quotient(alloc: Global, upper: &[Rat], lower: &[Rat]) -> Result
     ensures value { IfOk result (λ r. IsPrimitiveQuotient (map number upper.now) (map number lower.now) r.upper r.lower) }
     ensures wide { IfErr result KeepsWideStep }
 {
-    let mut list = Row::new(alloc);
-    push_all(&mut list, upper)?;
-    push_all(&mut list, lower)?;
+    let mut list = Row::from_slice(alloc, upper)?;
+    list.extend_from_slice(lower)?;
     let common = over_common(alloc, list.as_slice())?;
     let r = parted(alloc, common.numbers.as_slice(), lower.len())?;
     Ok(r)
-}
-
-// Adds copies.
-fn push_all(row: &mut Row<Rat>, list: &[Rat]) -> Result<(), Stop>
-    ensures value { OnOk result (row.new ≡ row.old ++ list.now) }
-    ensures wide { IfErr result KeepsWideStep }
-{
-    for i in 0..list.len() {
-        row.push(list[i])?;
-    }
-    Ok(())
 }
 
 // The first n numbers and the others.
@@ -50,19 +38,7 @@ fn parted(alloc: Global, numbers: &[i128], n: usize) -> Result<Quotient, Stop>
     ensures wide { IfErr result KeepsWideStep }
 {
     let (first, others) = numbers.split_at(n);
-    let lower = copied(alloc, first)?;
-    let upper = copied(alloc, others)?;
+    let lower = Row::from_slice(alloc, first)?;
+    let upper = Row::from_slice(alloc, others)?;
     Ok(Quotient { upper, lower })
-}
-
-// A copy of a slice.
-fn copied(alloc: Global, list: &[i128]) -> Result<Row<i128>, Stop>
-    ensures value { IfOk result (λ r. r ≡ list.now) }
-    ensures wide { IfErr result KeepsWideStep }
-{
-    let mut row = Row::new(alloc);
-    for i in 0..list.len() {
-        row.push(list[i])?;
-    }
-    Ok(row)
 }

@@ -15,7 +15,7 @@ use Rattle.sg_algebra.proofs.Value.{Value, ◌/ᵛ◌, zero_value, one_value}
 use Rattle.sg_matrix.specs.declared.solution.Solution.{Solution}
 use Rattle.sg_num.specs.Value.{number}
 use Rattle.sg_num.specs.declared.rat.Rat.{Rat}
-use Rattle.sg_first_order.specs.Solutions.{Pair, pair, Solves, IsBasis}
+use Rattle.sg_first_order_theory.specs.Solutions.{Pair, pair, Solves, IsBasis}
 use Rattle.sg_ratfun.specs.Fractions.{ratio}
 use Rattle.sg_closing.specs.Antidifferences.{Antidifference, HasNoConstant, IsSolution}
 use Rattle.sg_closing.proofs.Constants.{divided, no-constant}

@@ -10,8 +10,8 @@ use Rattle.sg_algebra.proofs.Polynomial.{coefficient}
 use Rattle.sg_algebra.proofs.Solver.{ring, by, scale, reads}
 use Rattle.sg_algebra.proofs.Value.{Value, ◌+ᵛ◌, ◌-ᵛ◌, ◌*ᵛ◌, ◌/ᵛ◌, neg_value, inv_value, zero_value, one_value}
 use Rattle.sg_algebra.proofs.ValueField.{ValueR, ValueD, value_product, value_one_ne}
-use Rattle.sg_first_order.specs.Solutions.{Pair, pair, Solves, sum_consts, Combination, IsBasis}
-use Rattle.sg_shift.proofs.ShiftValue.{shift_value, shift_value-mul, shift_value-constant}
+use Rattle.sg_first_order_theory.specs.Solutions.{Pair, pair, Solves, sum_consts, Combination, IsBasis}
+use Rattle.sg_algebra.proofs.ShiftValue.{shift_value, shift_value-mul, shift_value-constant}
 use Rattle.sg_closing.specs.Antidifferences.{Antidifference}
 
 pub constant-some : (c : Value 0) → ¬ (c ≡ zero_value) → ¬ (constant_value 0 c ≡ zero_value)

@@ -13,7 +13,7 @@ use Rattle.sg_num.specs.declared.rat.Rat.{Rat}
 use Rattle.sg_poly.specs.Polynomials.{polynomial_at}
 use Rattle.sg_ratfun.specs.Fractions.{ratio, moved_ratio, quotient_at}
 use Rattle.sg_ratfun.specs.Reduced.{IsReduced}
-use Rattle.sg_shift.proofs.ShiftValue.{shift_value, shift_value-over}
+use Rattle.sg_algebra.proofs.ShiftValue.{shift_value, shift_value-over}
 use Rattle.sg_value_theory.proofs.Elements.{IsQuotientAt}
 use Rattle.sg_canonical.proofs.RationalTrees.{lower-some, reduced-value}
 

@@ -12,7 +12,7 @@ use Rattle.sg_spec.specs.Generators.{Over, all_sums, all_prods, sums, prods, dis
 use Rattle.sg_spec.specs.Tree.{Tree, numeral, here, param, add, neg, mul, div, power, sum_from, prod_from}
 use Rattle.sg_spec.specs.Value.{val}
 use Rattle.sg_spec.proofs.Totals.{how_many-empty}
-use Rattle.sg_shift.proofs.ShiftValue.{shift_value, shift_valueH}
+use Rattle.sg_algebra.proofs.ShiftValue.{shift_value, shift_valueH}
 use Rattle.sg_value_theory.proofs.Elements.{IsQuotientAt}
 use Rattle.sg_value_theory.proofs.NumberParts.{HasNumber}
 use Rattle.sg_value_theory.proofs.Quotients.{quotients, quotient-constant}
@@ -20,8 +20,8 @@ use Rattle.sg_value_theory.proofs.RationalPlaces.{rational_places}
 use Rattle.sg_value_theory.proofs.RationalTexts.{element_of, worth_has}
 use Rattle.sg_value_theory.proofs.Regular.{regular_of}
 use Rattle.sg_spec.specs.Worth.{HasWorth}
-use Rattle.sg_written.proofs.Worths.{number_worth}
-use Rattle.sg_written.proofs.Closes.{no_letter, counted_total, closed_form}
+use Rattle.sg_worth_theory.proofs.Worths.{number_worth}
+use Rattle.sg_worth_theory.proofs.Closes.{no_letter, counted_total, closed_form}
 use Rattle.sg_canonical.specs.Rational.{IsRationalTree}
 use Rattle.sg_canonical.proofs.RationalTrees.{tree-over, tree-value}
 use Rattle.sg_closing.specs.Antidifferences.{Antidifference, IsSumOf}

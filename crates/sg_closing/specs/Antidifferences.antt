@@ -14,8 +14,8 @@ use Rattle.sg_num.specs.declared.rat.Rat.{Rat}
 use Rattle.sg_ratfun.specs.Fractions.{ratio}
 use Rattle.sg_spec.specs.Tree.{Tree}
 use Rattle.sg_spec.specs.Value.{val}
-use Rattle.sg_shift.proofs.ShiftValue.{shift_value}
-use Rattle.sg_first_order.specs.Solutions.{Solves}
+use Rattle.sg_algebra.proofs.ShiftValue.{shift_value}
+use Rattle.sg_first_order_theory.specs.Solutions.{Solves}
 use Rattle.sg_value_theory.proofs.Elements.{IsQuotientAt}
 use Rattle.sg_value_theory.proofs.NumberParts.{HasNumber}
 

@@ -12,14 +12,14 @@ use Rattle.sg_algebra.proofs.Value.{Value, zero_value, one_value, neg_value, ◌
 use Rattle.sg_algebra.proofs.ValueField.{ValueR}
 use Rattle.sg_algebra.proofs.Embedding.{constant_value}
 use Rattle.sg_algebra.proofs.Polynomial.{Polynomial, PolynomialR, poly-neg, constant, zero_polynomial, ◌*ᵖ◌, neg_polynomial}
-use Rattle.sg_first_order.proofs.Next.{moved_polynomial}
-use Rattle.sg_shift.proofs.ShiftValue.{shift_value, shift_value-add}
-use Rattle.sg_reduction.proofs.Moves.{Share, sum_at, difference, next-neg}
-use Rattle.sg_reduction.proofs.Spanning.{Sized}
-use Rattle.sg_reduction.proofs.Steps.{term, forward, negated, term-forward, term-negated, sum-append}
-use Rattle.sg_reduction.proofs.Settling.{carries_refl, carries_trans}
-use Rattle.sg_reduction.proofs.Places.{Fits, fits_some}
-use Rattle.sg_reduction.proofs.Images.{moved_zero, one_more, one_less, fits_image, forward_image, forward_back}
+use Rattle.sg_first_order_theory.proofs.Next.{moved_polynomial}
+use Rattle.sg_algebra.proofs.ShiftValue.{shift_value, shift_value-add}
+use Rattle.sg_reduction_theory.proofs.Moves.{Share, sum_at, difference, next-neg}
+use Rattle.sg_reduction_theory.proofs.Spanning.{Sized}
+use Rattle.sg_reduction_theory.proofs.Steps.{term, forward, negated, term-forward, term-negated, sum-append}
+use Rattle.sg_reduction_theory.proofs.Settling.{carries_refl, carries_trans}
+use Rattle.sg_reduction_theory.proofs.Places.{Fits, fits_some}
+use Rattle.sg_reduction_theory.proofs.Images.{moved_zero, one_more, one_less, fits_image, forward_image, forward_back}
 use Rattle.sg_constant.specs.Shares.{share, shares, image_of, scaled_by, HasLowers, IsCarried}
 use Rattle.sg_constant.specs.declared.shares.Share.{Share as Given}
 

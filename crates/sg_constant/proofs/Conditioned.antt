@@ -12,14 +12,14 @@ use Rattle.sg_algebra.proofs.Rows.{at_past}
 use Rattle.sg_algebra.proofs.Linear.{row_times}
 use Rattle.sg_algebra.proofs.Value.{Value, zero_value}
 use Rattle.sg_algebra.proofs.Polynomial.{Polynomial, poly, same_list, coefficient, zero_polynomial}
-use Rattle.sg_theory.proofs.Listed.{list_of, poly-list_of}
-use Rattle.sg_first_order.proofs.System.{row_of}
-use Rattle.sg_first_order.proofs.Weighted.{weighted}
-use Rattle.sg_first_order.proofs.Under.{Under}
-use Rattle.sg_reduction.proofs.Answer.{None}
-use Rattle.sg_reduction.proofs.Spanning.{Sized}
-use Rattle.sg_reduction.proofs.Places.{Fits}
-use Rattle.sg_reduction.proofs.Conditions.{none_rows, rows_none, rows_past}
+use Rattle.sg_dispersion_theory.proofs.Listed.{list_of, poly-list_of}
+use Rattle.sg_first_order_theory.proofs.System.{row_of}
+use Rattle.sg_first_order_theory.proofs.Weighted.{weighted}
+use Rattle.sg_first_order_theory.proofs.Under.{Under}
+use Rattle.sg_reduction_theory.proofs.Answer.{None}
+use Rattle.sg_reduction_theory.proofs.Spanning.{Sized}
+use Rattle.sg_reduction_theory.proofs.Places.{Fits}
+use Rattle.sg_reduction_theory.proofs.Conditions.{none_rows, rows_none, rows_past}
 use Rattle.sg_constant.specs.Shares.{polys, share, shares}
 use Rattle.sg_constant.specs.Conditions.{Sends, HasSize, IsConditioned, AreConditions}
 use Rattle.sg_constant.specs.declared.shares.Share.{Share as Given}

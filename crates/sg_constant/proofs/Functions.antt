@@ -17,17 +17,17 @@ use Rattle.sg_algebra.proofs.Value.{Value, over_value, zero_value, inv_value, ne
 use Rattle.sg_algebra.proofs.ValueField.{ValueR, value_quotient, value_product, value_mul-inv, value_one_ne}
 use Rattle.sg_algebra.proofs.Embedding.{constant_value, over_value-quotient}
 use Rattle.sg_algebra.proofs.Polynomial.{Polynomial, PolynomialR, poly, poly_cong, constant, zero_polynomial, one_polynomial, ◌+ᵖ◌, ◌*ᵖ◌}
-use Rattle.sg_shift.proofs.ShiftValue.{shift_value, shift_valueH}
+use Rattle.sg_algebra.proofs.ShiftValue.{shift_value, shift_valueH}
 use Rattle.sg_ratfun.specs.Fractions.{ratio}
-use Rattle.sg_first_order.proofs.ValueFractions.{whole, whole-poly, whole-add, whole-mul, whole-zero, whole-one}
-use Rattle.sg_first_order.proofs.FirstOrder.{whole_ne}
-use Rattle.sg_first_order.proofs.Under.{Under, under_poly}
-use Rattle.sg_first_order.proofs.Weighted.{weighted}
-use Rattle.sg_reduction.proofs.Moves.{Share, sum_at, difference}
-use Rattle.sg_reduction.proofs.Settling.{carries_reduced}
-use Rattle.sg_reduction.proofs.Spanning.{Sized}
-use Rattle.sg_reduction.proofs.Places.{Fits, Good}
-use Rattle.sg_reduction.proofs.Conditions.{zeros, alone, alone-weighted, reduced_more}
+use Rattle.sg_first_order_theory.proofs.ValueFractions.{whole, whole-poly, whole-add, whole-mul, whole-zero, whole-one}
+use Rattle.sg_first_order_theory.proofs.FirstOrder.{whole_ne}
+use Rattle.sg_first_order_theory.proofs.Under.{Under, under_poly}
+use Rattle.sg_first_order_theory.proofs.Weighted.{weighted}
+use Rattle.sg_reduction_theory.proofs.Moves.{Share, sum_at, difference}
+use Rattle.sg_reduction_theory.proofs.Settling.{carries_reduced}
+use Rattle.sg_reduction_theory.proofs.Spanning.{Sized}
+use Rattle.sg_reduction_theory.proofs.Places.{Fits, Good}
+use Rattle.sg_reduction_theory.proofs.Conditions.{zeros, alone, alone-weighted, reduced_more}
 use Rattle.sg_constant.specs.Shares.{polys, over, Settles}
 use Rattle.sg_constant.specs.Reductions.{IsAdded, IsReduction}
 use Rattle.sg_constant.proofs.Numerators.{list_degree, polys_push}

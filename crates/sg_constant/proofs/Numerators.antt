@@ -16,14 +16,14 @@ use Rattle.sg_algebra.proofs.Degree.{Degree, below-add, degree_same, degree_uniq
 use Rattle.sg_algebra.proofs.Value.{Value, ◌+ᵛ◌}
 use Rattle.sg_algebra.proofs.ValueField.{ValueR, ValueF, ValueD}
 use Rattle.sg_algebra.proofs.Polynomial.{Polynomial, PolynomialR, poly, same_list, poly-add, poly-mul, polynomial_factor, EndsNonzero, zero_polynomial, one_polynomial, ◌+ᵖ◌, ◌-ᵖ◌, ◌*ᵖ◌, neg_polynomial}
-use Rattle.sg_theory.proofs.Listed.{list_of, poly-list_of, poly_degree}
+use Rattle.sg_dispersion_theory.proofs.Listed.{list_of, poly-list_of, poly_degree}
 use Rattle.sg_poly.specs.Divisors.{◌∣ᵖ◌}
-use Rattle.sg_first_order.proofs.Under.{Under, under_poly}
-use Rattle.sg_reduction.proofs.Moves.{Share}
-use Rattle.sg_reduction.proofs.Steps.{Adds, sum_term}
-use Rattle.sg_reduction.proofs.Proper.{product_below}
-use Rattle.sg_reduction.proofs.Places.{Fits}
-use Rattle.sg_reduction.proofs.Splitting.{split_terms, rest_fits}
+use Rattle.sg_first_order_theory.proofs.Under.{Under, under_poly}
+use Rattle.sg_reduction_theory.proofs.Moves.{Share}
+use Rattle.sg_reduction_theory.proofs.Steps.{Adds, sum_term}
+use Rattle.sg_reduction_theory.proofs.Proper.{product_below}
+use Rattle.sg_reduction_theory.proofs.Places.{Fits}
+use Rattle.sg_reduction_theory.proofs.Splitting.{split_terms, rest_fits}
 use Rattle.sg_constant.specs.Multiples.{IsMultiple}
 use Rattle.sg_constant.specs.Shares.{polys, over, IsSplit, IsJoined}
 

@@ -20,18 +20,18 @@ use Rattle.sg_algebra.proofs.Value.{Value, zero_value, one_value, inv_value}
 use Rattle.sg_algebra.proofs.ValueField.{ValueR, ValueD, value_is_zero, value_mul-inv}
 use Rattle.sg_algebra.proofs.Rational.{whole_value}
 use Rattle.sg_algebra.proofs.Polynomial.{Polynomial, PolynomialR, poly, poly_same, same_list, coefficient, constant, EndsNonzero, zero_polynomial, one_polynomial, ◌*ᵖ◌}
-use Rattle.sg_theory.proofs.Listed.{list_of, poly-list_of, poly_degree}
+use Rattle.sg_dispersion_theory.proofs.Listed.{list_of, poly-list_of, poly_degree}
 use Rattle.sg_poly.specs.Divisors.{IsMonic, IsGcd}
 use Rattle.sg_poly.proofs.Dividers.{constants}
 use Rattle.sg_poly.proofs.Exact.{degree_of_ends}
 use Rattle.sg_spread.specs.Shifts.{Meets}
 use Rattle.sg_spread.proofs.Meeting.{constant_divisor}
-use Rattle.sg_first_order.proofs.Next.{nextH, bezout_polynomial, moved_polynomial, moved_polynomial-poly}
-use Rattle.sg_reduction.proofs.Apart.{Apart}
-use Rattle.sg_reduction.proofs.Answer.{bottoms}
-use Rattle.sg_reduction.proofs.Images.{moved_undone, moved_polynomialH}
-use Rattle.sg_reduction.proofs.Everywhere.{apart_everywhere, free_later, forward_is}
-use Rattle.sg_reduction.proofs.Settling.{IsPart, left_part, right_part, both_parts, radical_on}
+use Rattle.sg_first_order_theory.proofs.Next.{nextH, bezout_polynomial, moved_polynomial, moved_polynomial-poly}
+use Rattle.sg_reduction_theory.proofs.Apart.{Apart}
+use Rattle.sg_reduction_theory.proofs.Answer.{bottoms}
+use Rattle.sg_reduction_theory.proofs.Images.{moved_undone, moved_polynomialH}
+use Rattle.sg_reduction_theory.proofs.Everywhere.{apart_everywhere, free_later, forward_is}
+use Rattle.sg_reduction_theory.proofs.Settling.{IsPart, left_part, right_part, both_parts, radical_on}
 use Rattle.sg_constant.specs.Shares.{size, shares, lower_at, HasLowers, IsCut, IsFree, IsJoint, IsMeeting, IsGreatest}
 use Rattle.sg_constant.specs.declared.shares.Share.{Share as Given}
 use Rattle.sg_constant.proofs.Taken.{size_less, long_of, short_of}

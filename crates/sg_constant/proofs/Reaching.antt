@@ -14,7 +14,7 @@ use Rattle.sg_algebra.proofs.ValueField.{ValueR, ValueD, value_is_zero, value_on
 use Rattle.sg_algebra.proofs.PolynomialRing.{constant-mul}
 use Rattle.sg_algebra.proofs.Polynomial.{Polynomial, PolynomialR, ListR, poly, poly_cong, poly_same, same_poly, poly-mul, constant, coefficient, EndsNonzero, zero_polynomial, one_polynomial, ◌+ᵖ◌, ◌-ᵖ◌, ◌*ᵖ◌, neg_polynomial}
 use Rattle.sg_algebra.proofs.Rows.{at_read, last_nonzero}
-use Rattle.sg_theory.proofs.Listed.{poly_dvd}
+use Rattle.sg_dispersion_theory.proofs.Listed.{poly_dvd}
 use Rattle.sg_poly.specs.Divisors.{IsMonic}
 use Rattle.sg_constant.specs.Multiples.{IsMultiple, IsScaled, IsLess}
 

@@ -13,12 +13,12 @@ use Rattle.sg_algebra.proofs.Solver.{by, reads}
 use Rattle.sg_algebra.proofs.Value.{Value, ◌+ᵛ◌}
 use Rattle.sg_algebra.proofs.ValueField.{ValueR}
 use Rattle.sg_algebra.proofs.Polynomial.{Polynomial, PolynomialR, poly, ◌*ᵖ◌}
-use Rattle.sg_first_order.proofs.Next.{moved_polynomial}
-use Rattle.sg_reduction.proofs.Moves.{Share, sum_at, difference}
-use Rattle.sg_reduction.proofs.Spanning.{Sized}
-use Rattle.sg_reduction.proofs.Steps.{term}
-use Rattle.sg_reduction.proofs.Settling.{carries_refl, carries_trans}
-use Rattle.sg_reduction.proofs.Places.{Fits, Good, fits_some, good_add, good_put, carried_both, carried_add, carried_join}
+use Rattle.sg_first_order_theory.proofs.Next.{moved_polynomial}
+use Rattle.sg_reduction_theory.proofs.Moves.{Share, sum_at, difference}
+use Rattle.sg_reduction_theory.proofs.Spanning.{Sized}
+use Rattle.sg_reduction_theory.proofs.Steps.{term}
+use Rattle.sg_reduction_theory.proofs.Settling.{carries_refl, carries_trans}
+use Rattle.sg_reduction_theory.proofs.Places.{Fits, Good, fits_some, good_add, good_put, carried_both, carried_add, carried_join}
 use Rattle.sg_constant.specs.Shares.{polys, share, shares, lower_at, HasLowers, IsSplit, IsFree, IsJoint, IsCarried, IsJoined, Settles, Peels}
 use Rattle.sg_constant.specs.declared.shares.Share.{Share as Given}
 

@@ -20,15 +20,15 @@ use Rattle.sg_algebra.proofs.Embedding.{constant_value}
 use Rattle.sg_algebra.proofs.Polynomial.{Polynomial, poly, coefficient, constant, zero_polynomial, ◌+ᵖ◌, ◌*ᵖ◌}
 use Rattle.sg_matrix.specs.declared.solution.Solution.{Solution}
 use Rattle.sg_ratfun.specs.Fractions.{ratio}
-use Rattle.sg_first_order.specs.Solutions.{Pair, pair, IsBasis}
-use Rattle.sg_first_order.proofs.Weighted.{weighted}
-use Rattle.sg_reduction.proofs.Moves.{Share, sum_at}
-use Rattle.sg_reduction.proofs.Steps.{term}
-use Rattle.sg_reduction.proofs.Answer.{None, Small, bottoms}
-use Rattle.sg_reduction.proofs.Spanning.{Sized, Known}
-use Rattle.sg_reduction.proofs.Places.{Fits, fits_some, fits_small}
-use Rattle.sg_reduction.proofs.Conditions.{whole-end}
-use Rattle.sg_reduction.proofs.Bases.{IsNull, Match, Solved as IsSolved, is_basis_one, is_basis_other}
+use Rattle.sg_first_order_theory.specs.Solutions.{Pair, pair, IsBasis}
+use Rattle.sg_first_order_theory.proofs.Weighted.{weighted}
+use Rattle.sg_reduction_theory.proofs.Moves.{Share, sum_at}
+use Rattle.sg_reduction_theory.proofs.Steps.{term}
+use Rattle.sg_reduction_theory.proofs.Answer.{None, Small, bottoms}
+use Rattle.sg_reduction_theory.proofs.Spanning.{Sized, Known}
+use Rattle.sg_reduction_theory.proofs.Places.{Fits, fits_some, fits_small}
+use Rattle.sg_reduction_theory.proofs.Conditions.{whole-end}
+use Rattle.sg_reduction_theory.proofs.Bases.{IsNull, Match, Solved as IsSolved, is_basis_one, is_basis_other}
 use Rattle.sg_constant.specs.Shares.{polys, share, shares}
 use Rattle.sg_constant.specs.Conditions.{AreConditions}
 use Rattle.sg_constant.specs.Reductions.{IsReduction, pairs, IsUnit, AreSolutions, VanishAt}

@@ -14,8 +14,8 @@ use Rattle.sg_algebra.proofs.Value.{Value, zero_value, one_value, ◌-ᵛ◌, �
 use Rattle.sg_algebra.proofs.ValueField.{ValueR, value_is_zero, value_product, value_mul_comm}
 use Rattle.sg_algebra.proofs.Embedding.{numeral_ne}
 use Rattle.sg_algebra.proofs.Polynomial.{Polynomial, PolynomialR, poly, coefficient, constant, EndsNonzero, zero_polynomial, one_polynomial, ◌+ᵖ◌, ◌-ᵖ◌, ◌*ᵖ◌, neg_polynomial}
-use Rattle.sg_first_order.proofs.Next.{next, next-add, next-zero}
-use Rattle.sg_reduction.proofs.Leading.{IsTerm, IsLeading, falls}
+use Rattle.sg_first_order_theory.proofs.Next.{next, next-add, next-zero}
+use Rattle.sg_reduction_theory.proofs.Leading.{IsTerm, IsLeading, falls}
 use Rattle.sg_constant.specs.Shares.{size}
 use Rattle.sg_constant.proofs.Taken.{size_degree}
 

@@ -18,12 +18,12 @@ use Rattle.sg_algebra.proofs.Degree.{Degree, below_degree, below_same, degree_be
 use Rattle.sg_algebra.proofs.Value.{Value, zero_value, one_value}
 use Rattle.sg_algebra.proofs.ValueField.{ValueR, ValueD, value_is_zero, value_one_ne}
 use Rattle.sg_algebra.proofs.Polynomial.{Polynomial, PolynomialR, poly, poly_same, same_list, poly-mul, coefficient, EndsNonzero, zero_polynomial, one_polynomial, ◌*ᵖ◌}
-use Rattle.sg_theory.proofs.Listed.{poly_degree}
-use Rattle.sg_theory.proofs.ValueCertificate.{monic_length}
+use Rattle.sg_dispersion_theory.proofs.Listed.{poly_degree}
+use Rattle.sg_dispersion_theory.proofs.ValueCertificate.{monic_length}
 use Rattle.sg_poly.specs.Divisors.{◌∣ᵖ◌, IsMonic, IsGcd}
 use Rattle.sg_ratfun.proofs.Monics.{monic_cong}
-use Rattle.sg_first_order.proofs.Next.{nextH, bezout_polynomial}
-use Rattle.sg_reduction.proofs.Settling.{IsPart}
+use Rattle.sg_first_order_theory.proofs.Next.{nextH, bezout_polynomial}
+use Rattle.sg_reduction_theory.proofs.Settling.{IsPart}
 use Rattle.sg_constant.specs.Shares.{size}
 
 module _ {d : ℕ} where

@@ -8,9 +8,9 @@ use Rattle.sg_algebra.specs.Coefficients.{Each}
 use Rattle.sg_algebra.proofs.Linear.{row_times}
 use Rattle.sg_algebra.proofs.Value.{Value, zero_value}
 use Rattle.sg_algebra.proofs.Polynomial.{zero_polynomial}
-use Rattle.sg_first_order.proofs.Weighted.{weighted}
-use Rattle.sg_reduction.proofs.Answer.{None}
-use Rattle.sg_reduction.proofs.Spanning.{Sized}
+use Rattle.sg_first_order_theory.proofs.Weighted.{weighted}
+use Rattle.sg_reduction_theory.proofs.Answer.{None}
+use Rattle.sg_reduction_theory.proofs.Spanning.{Sized}
 use Rattle.sg_constant.specs.Shares.{polys, shares}
 use Rattle.sg_constant.specs.declared.shares.Share.{Share as Given}
 

@@ -12,13 +12,13 @@ use Rattle.sg_algebra.proofs.Value.{Value, zero_value, one_value, neg_value, ◌
 use Rattle.sg_algebra.proofs.Polynomial.{Polynomial, coefficient}
 use Rattle.sg_matrix.specs.declared.solution.Solution.{Solution}
 use Rattle.sg_ratfun.specs.Fractions.{ratio}
-use Rattle.sg_first_order.specs.Solutions.{Pair, pair}
-use Rattle.sg_reduction.proofs.Moves.{Share, Reduced}
-use Rattle.sg_reduction.proofs.Answer.{None}
-use Rattle.sg_reduction.proofs.Settling.{Carries}
-use Rattle.sg_reduction.proofs.Spanning.{Sized, Known}
-use Rattle.sg_reduction.proofs.Places.{Good}
-use Rattle.sg_reduction.proofs.Bases.{Match}
+use Rattle.sg_first_order_theory.specs.Solutions.{Pair, pair}
+use Rattle.sg_reduction_theory.proofs.Moves.{Share, Reduced}
+use Rattle.sg_reduction_theory.proofs.Answer.{None}
+use Rattle.sg_reduction_theory.proofs.Settling.{Carries}
+use Rattle.sg_reduction_theory.proofs.Spanning.{Sized, Known}
+use Rattle.sg_reduction_theory.proofs.Places.{Good}
+use Rattle.sg_reduction_theory.proofs.Bases.{Match}
 use Rattle.sg_constant.specs.Shares.{HasLowers}
 use Rattle.sg_constant.specs.declared.moving.Factors.{Factors}
 

@@ -29,14 +29,14 @@ use Rattle.sg_algebra.proofs.Value.{Value, ◌+ᵛ◌}
 use Rattle.sg_algebra.proofs.ValueField.{ValueR, value_is_zero}
 use Rattle.sg_algebra.proofs.Polynomial.{Polynomial, PolynomialR, poly, constant, zero_polynomial, ◌*ᵖ◌}
 use Rattle.sg_poly.specs.Divisors.{IsMonic, IsGcd}
-use Rattle.sg_first_order.proofs.Next.{nextH, moved_polynomial}
-use Rattle.sg_reduction.proofs.Apart.{Free, Apart}
-use Rattle.sg_reduction.proofs.Moves.{Share}
-use Rattle.sg_reduction.proofs.Answer.{bottoms}
-use Rattle.sg_reduction.proofs.Spanning.{Sized}
-use Rattle.sg_reduction.proofs.Steps.{term}
-use Rattle.sg_reduction.proofs.Settling.{Carries, IsPart}
-use Rattle.sg_reduction.proofs.Places.{Fits, Good}
+use Rattle.sg_first_order_theory.proofs.Next.{nextH, moved_polynomial}
+use Rattle.sg_reduction_theory.proofs.Apart.{Free, Apart}
+use Rattle.sg_reduction_theory.proofs.Moves.{Share}
+use Rattle.sg_reduction_theory.proofs.Answer.{bottoms}
+use Rattle.sg_reduction_theory.proofs.Spanning.{Sized}
+use Rattle.sg_reduction_theory.proofs.Steps.{term}
+use Rattle.sg_reduction_theory.proofs.Settling.{Carries, IsPart}
+use Rattle.sg_reduction_theory.proofs.Places.{Fits, Good}
 use Rattle.sg_constant.specs.declared.shares.Share.{Share as Given}
 use Rattle.sg_constant.specs.declared.shares.State.{State}
 

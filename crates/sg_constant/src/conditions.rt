@@ -2,8 +2,8 @@ ghost use Rattle.std.specs.Prelude.{◌≡◌, ◌<◌, map, OnOk, IfOk, IfErr};
 ghost use Rattle.sg_algebra.specs.Coefficients.{Each};
 ghost use Rattle.sg_algebra.proofs.Polynomial.{coefficient};
 ghost use Rattle.sg_num.specs.Stopped.{KeepsWideStep};
-ghost use Rattle.sg_first_order.proofs.System.{row_of};
-ghost use Rattle.sg_reduction.proofs.Places.{Fits};
+ghost use Rattle.sg_first_order_theory.proofs.System.{row_of};
+ghost use Rattle.sg_reduction_theory.proofs.Places.{Fits};
 ghost use Rattle.sg_constant.specs.Conditions.{IsConditioned, AreConditions};
 ghost use Rattle.sg_constant.specs.Shares.{share, shares};
 

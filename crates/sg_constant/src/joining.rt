@@ -2,7 +2,7 @@ ghost use Rattle.std.specs.Prelude.{◌≡◌, length, IfOk, IfErr};
 ghost use Rattle.sg_algebra.proofs.Polynomial.{zero_polynomial, ◌+ᵖ◌, ◌*ᵖ◌};
 ghost use Rattle.sg_num.specs.Stopped.{KeepsWideStep};
 ghost use Rattle.sg_poly.specs.Polynomials.{polynomial};
-ghost use Rattle.sg_reduction.proofs.Steps.{Adds};
+ghost use Rattle.sg_reduction_theory.proofs.Steps.{Adds};
 ghost use Rattle.sg_constant.specs.Shares.{polys, share, IsJoined};
 
 use crate::shares::Share;

@@ -1,7 +1,7 @@
 ghost use Rattle.std.specs.Prelude.{◌≡◌, ℤ, pos, neg_ℤ, ◌≤ℤ◌, IfOk, IfErr};
 ghost use Rattle.sg_algebra.proofs.Value.{one_value, neg_value, ◌*ᵛ◌};
 ghost use Rattle.sg_num.specs.Stopped.{KeepsWideStep};
-ghost use Rattle.sg_reduction.proofs.Places.{Fits};
+ghost use Rattle.sg_reduction_theory.proofs.Places.{Fits};
 ghost use Rattle.sg_constant.specs.Shares.{share, shares, IsCarried};
 
 use crate::shares::{Share, copy, image, multiple};

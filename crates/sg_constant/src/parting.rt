@@ -3,8 +3,8 @@ ghost use Rattle.sg_algebra.proofs.Polynomial.{PolynomialR, zero_polynomial};
 ghost use Rattle.sg_num.specs.Stopped.{KeepsWideStep};
 ghost use Rattle.sg_poly.specs.Divisors.{IsMonic};
 ghost use Rattle.sg_poly.specs.Polynomials.{polynomial};
-ghost use Rattle.sg_first_order.proofs.Next.{nextH};
-ghost use Rattle.sg_reduction.proofs.Settling.{IsPart};
+ghost use Rattle.sg_first_order_theory.proofs.Next.{nextH};
+ghost use Rattle.sg_reduction_theory.proofs.Settling.{IsPart};
 
 use sg_num::{Field, Stop};
 use sg_poly::Poly;

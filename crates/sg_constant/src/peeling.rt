@@ -3,7 +3,7 @@ ghost use Rattle.sg_algebra.proofs.Value.{one_value, neg_value, ◌*ᵛ◌};
 ghost use Rattle.sg_algebra.proofs.Polynomial.{zero_polynomial};
 ghost use Rattle.sg_num.specs.Stopped.{KeepsWideStep};
 ghost use Rattle.sg_poly.specs.Polynomials.{polynomial};
-ghost use Rattle.sg_reduction.proofs.Places.{Fits, Good};
+ghost use Rattle.sg_reduction_theory.proofs.Places.{Fits, Good};
 ghost use Rattle.sg_constant.specs.Shares.{polys, share, shares, Settling, Peeling};
 
 use crate::moving::Factors;

@@ -4,7 +4,7 @@ ghost use Rattle.sg_algebra.proofs.Polynomial.{zero_polynomial};
 ghost use Rattle.sg_num.specs.Stopped.{KeepsWideStep};
 ghost use Rattle.sg_poly.specs.Divisors.{IsMonic};
 ghost use Rattle.sg_poly.specs.Polynomials.{polynomial};
-ghost use Rattle.sg_first_order.proofs.Next.{moved_polynomial};
+ghost use Rattle.sg_first_order_theory.proofs.Next.{moved_polynomial};
 ghost use Rattle.sg_spread.specs.Shifts.{Meets};
 ghost use Rattle.sg_constant.specs.Shares.{shares, lower_at, IsCut, IsFree, IsJointAt, IsMeeting, IsGreatest, HasLowers};
 

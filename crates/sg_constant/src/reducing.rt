@@ -4,9 +4,9 @@ ghost use Rattle.sg_algebra.proofs.Polynomial.{zero_polynomial};
 ghost use Rattle.sg_num.specs.Stopped.{KeepsWideStep};
 ghost use Rattle.sg_poly.specs.Polynomials.{polynomial};
 ghost use Rattle.sg_ratfun.specs.Fractions.{ratio};
-ghost use Rattle.sg_first_order.proofs.ValueFractions.{whole as as_value};
-ghost use Rattle.sg_reduction.proofs.Conditions.{alone as alone_at};
-ghost use Rattle.sg_reduction.proofs.Places.{Fits, Good};
+ghost use Rattle.sg_first_order_theory.proofs.ValueFractions.{whole as as_value};
+ghost use Rattle.sg_reduction_theory.proofs.Conditions.{alone as alone_at};
+ghost use Rattle.sg_reduction_theory.proofs.Places.{Fits, Good};
 ghost use Rattle.sg_constant.specs.Shares.{polys, over, shares};
 ghost use Rattle.sg_constant.specs.Reductions.{IsAdded, IsReduction};
 

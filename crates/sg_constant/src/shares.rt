@@ -2,7 +2,7 @@ ghost use Rattle.std.specs.Prelude.{◌≡◌, map, IfOk, IfErr};
 ghost use Rattle.sg_algebra.proofs.Polynomial.{constant, ◌*ᵖ◌};
 ghost use Rattle.sg_num.specs.Stopped.{KeepsWideStep};
 ghost use Rattle.sg_poly.specs.Polynomials.{polynomial};
-ghost use Rattle.sg_first_order.proofs.Next.{moved_polynomial};
+ghost use Rattle.sg_first_order_theory.proofs.Next.{moved_polynomial};
 ghost use Rattle.sg_constant.specs.Shares.{polys, share, image_of, scaled_by};
 
 use sg_num::{Field, Row, Stop};

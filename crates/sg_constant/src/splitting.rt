@@ -7,8 +7,8 @@ ghost use Rattle.sg_algebra.proofs.Polynomial.{Polynomial, PolynomialR, zero_pol
 ghost use Rattle.sg_num.specs.Stopped.{KeepsWideStep};
 ghost use Rattle.sg_poly.specs.Divisors.{◌∣ᵖ◌, IsMonic};
 ghost use Rattle.sg_poly.specs.Polynomials.{polynomial};
-ghost use Rattle.sg_first_order.proofs.Under.{Under};
-ghost use Rattle.sg_reduction.proofs.Steps.{Adds};
+ghost use Rattle.sg_first_order_theory.proofs.Under.{Under};
+ghost use Rattle.sg_reduction_theory.proofs.Steps.{Adds};
 ghost use Rattle.sg_constant.specs.Multiples.{IsMultiple};
 ghost use Rattle.sg_constant.specs.Shares.{polys, share, over, IsSplit};
 

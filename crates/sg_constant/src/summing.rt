@@ -5,8 +5,8 @@ ghost use Rattle.sg_algebra.proofs.ValueField.{ValueR};
 ghost use Rattle.sg_algebra.proofs.Polynomial.{coefficient, constant, EndsNonzero, ◌-ᵖ◌, ◌*ᵖ◌};
 ghost use Rattle.sg_num.specs.Stopped.{KeepsWideStep};
 ghost use Rattle.sg_poly.specs.Polynomials.{polynomial};
-ghost use Rattle.sg_first_order.proofs.Next.{next};
-ghost use Rattle.sg_reduction.proofs.Leading.{IsTerm, IsLeading};
+ghost use Rattle.sg_first_order_theory.proofs.Next.{next};
+ghost use Rattle.sg_reduction_theory.proofs.Leading.{IsTerm, IsLeading};
 
 use crate::polynomials::nothing;
 use sg_num::{Field, Rat, Stop};

@@ -3,3 +3,5 @@ pub mod Sums
 pub mod Stepping
 pub mod Items
 pub mod Listed
+pub mod Summing
+pub mod Among

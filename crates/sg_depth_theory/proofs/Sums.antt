@@ -10,7 +10,7 @@ use Rattle.sg_algebra.specs.Coefficients.{Each}
 use Rattle.sg_algebra.proofs.Value.{Value}
 use Rattle.sg_spec.specs.Tree.{Tree, here, numeral, param, add, neg, mul, div, power, sum_from, prod_from}
 use Rattle.sg_spec.specs.Worth.{HasWorth}
-use Rattle.sg_written.proofs.Bodies.{HasBody, StartsBy}
+use Rattle.sg_worth_theory.proofs.Bodies.{HasBody, StartsBy}
 use Rattle.sg_value_theory.proofs.TowerOf.{IsSound, IsSumOver, BuiltOver, at_places}
 use Rattle.sg_value_theory.proofs.PointsOf.{HasValues, HasUnits, sum_worth}
 use Rattle.sg_value_theory.proofs.Lists.{each-at}

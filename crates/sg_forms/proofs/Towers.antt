@@ -15,7 +15,7 @@ use Rattle.sg_tower_theory.proofs.Difference.{delta}
 use Rattle.sg_tower_theory.proofs.Formal.{Element, elements, shifted, IsIndependent}
 use Rattle.sg_value_theory.proofs.TowerOf.{at_places}
 use Rattle.sg_value_theory.proofs.Lists.{each-at, each-more}
-use Rattle.sg_nested_theory.proofs.Summing.{somewhere}
+use Rattle.sg_depth_theory.proofs.Summing.{somewhere}
 use Rattle.sg_tower.specs.Elements.{Reading, Same, IsShifted, IsDifference, IsCopy}
 use Rattle.sg_limits.specs.declared.inspection.Facts.{Facts}
 use Rattle.sg_build.specs.Letters.{letter}

@@ -5,7 +5,7 @@ use Rattle.std.proofs.Common.{ℕ, refl, List, [], ◌∷◌}
 use Rattle.sg_algebra.proofs.Place.{Pairwise}
 use Rattle.sg_algebra.proofs.Value.{Value}
 use Rattle.sg_spec.specs.Canonical.{Plane, Written}
-use Rattle.sg_theory.proofs.Listed.{poly_coprime}
+use Rattle.sg_dispersion_theory.proofs.Listed.{poly_coprime}
 use Rattle.sg_canonical.proofs.RationalTrees.{lower-some}
 use Rattle.sg_tower_theory.proofs.Flat.{Term, IsLowestForm}
 use Rattle.sg_build.specs.Forms.{IsWholeForm, form_of_rats}

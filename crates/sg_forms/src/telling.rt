@@ -7,7 +7,7 @@ ghost use Rattle.sg_spec.specs.Generators.{sums, start};
 ghost use Rattle.sg_spec.specs.Limits.{counted};
 ghost use Rattle.sg_spec.specs.Printing.{InForm};
 ghost use Rattle.sg_limits.specs.Counts.{AreFacts};
-ghost use Rattle.sg_written.proofs.Plain.{HasNoProduct};
+ghost use Rattle.sg_worth_theory.proofs.Plain.{HasNoProduct};
 ghost use Rattle.sg_forms.specs.Commands.{AreTold, ArePrinted};
 
 use crate::frees::{Standing, standings_in};

@@ -9,8 +9,8 @@ use Rattle.sg_algebra.proofs.Value.{Value, ◌-ᵛ◌}
 use Rattle.sg_spec.specs.Tree.{Tree, here}
 use Rattle.sg_spec.specs.Value.{val}
 use Rattle.sg_spec.proofs.Worth.{Worth}
-use Rattle.sg_written.proofs.Worths.{worth_number}
-use Rattle.sg_written.proofs.Closes.{no_letter}
+use Rattle.sg_worth_theory.proofs.Worths.{worth_number}
+use Rattle.sg_worth_theory.proofs.Closes.{no_letter}
 use Rattle.sg_tower_theory.proofs.Nested.{Shape}
 use Rattle.sg_tower_theory.proofs.Formal.{Formal, Element, one_more, base, IsIndependent}
 use Rattle.sg_value_theory.proofs.Elements.{Point, HasElement}

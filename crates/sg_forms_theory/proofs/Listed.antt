@@ -14,7 +14,7 @@ use Rattle.sg_algebra.proofs.Value.{Value}
 use Rattle.sg_spec.specs.Tree.{Tree, here}
 use Rattle.sg_spec.specs.Telescoping.{Agree}
 use Rattle.sg_spec.specs.Worth.{HasWorth}
-use Rattle.sg_written.proofs.Closes.{no_letter}
+use Rattle.sg_worth_theory.proofs.Closes.{no_letter}
 use Rattle.sg_tower_theory.proofs.Slices.{pairwise_length}
 use Rattle.sg_tower_theory.proofs.Difference.{delta}
 use Rattle.sg_tower_theory.proofs.Formal.{Formal, Element, elements, shifted, IsIndependent}
@@ -24,7 +24,7 @@ use Rattle.sg_value_theory.proofs.TowerOf.{IsTowerOf, IsSound, at_places, up_to,
 use Rattle.sg_value_theory.proofs.PointsOf.{HasValues, HasUnits}
 use Rattle.sg_value_theory.proofs.Lists.{each-at}
 use Rattle.sg_depth_theory.proofs.Sums.{units}
-use Rattle.sg_nested_theory.proofs.Summing.{all-have, frees-all, KnownAgree, known-at}
+use Rattle.sg_depth_theory.proofs.Summing.{all-have, frees-all, KnownAgree, known-at}
 use Rattle.sg_forms_theory.specs.Sums.{IsFree, IsEqualFrom}
 use Rattle.sg_forms_theory.specs.Checks.{TelescopesFrom, FailsBeyond}
 use Rattle.sg_forms_theory.proofs.Steps.{Stands, same_from, steps_from, fails_past, one_element}

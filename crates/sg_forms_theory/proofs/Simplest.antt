@@ -15,8 +15,8 @@ use Rattle.sg_spec.specs.Tree.{Tree, numeral, here, param, add, neg, mul, div, p
 use Rattle.sg_spec.specs.Generators.{Over}
 use Rattle.sg_spec.specs.Telescoping.{Agree}
 use Rattle.sg_spec.specs.Canonical.{Plane, Written, element_tree, IsLowest, IsCanonicalOver}
-use Rattle.sg_written.proofs.Building.{NoParameter, over-element}
-use Rattle.sg_written.proofs.Closes.{no_letter}
+use Rattle.sg_worth_theory.proofs.Building.{NoParameter, over-element}
+use Rattle.sg_worth_theory.proofs.Closes.{no_letter}
 use Rattle.sg_tower_theory.proofs.Formal.{Formal, Element, IsIndependent}
 use Rattle.sg_tower_theory.proofs.Flat.{Term, IsLowestForm, IsFlat}
 use Rattle.sg_value_theory.proofs.Elements.{Point}

@@ -16,8 +16,8 @@ use Rattle.sg_spec.specs.Telescoping.{Steps, Failing, Agree, difference_of}
 use Rattle.sg_spec.specs.Worth.{HasWorth}
 use Rattle.sg_spec.proofs.Values.{val-proper}
 use Rattle.sg_spec.proofs.Worth.{Worth, worth_same, same_worth}
-use Rattle.sg_written.proofs.Worths.{worth_number}
-use Rattle.sg_written.proofs.Closes.{no_letter}
+use Rattle.sg_worth_theory.proofs.Worths.{worth_number}
+use Rattle.sg_worth_theory.proofs.Closes.{no_letter}
 use Rattle.sg_tower_theory.proofs.Difference.{delta}
 use Rattle.sg_tower_theory.proofs.Formal.{Formal, Element, domain_of, elements, shifted, IsIndependent, lawful_formal}
 use Rattle.sg_value_theory.proofs.Elements.{Point, HasElement, Follows}

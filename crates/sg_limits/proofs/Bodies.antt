@@ -6,7 +6,7 @@ use Rattle.sg_algebra.specs.Coefficients.{Each}
 use Rattle.sg_algebra.proofs.Value.{Value}
 use Rattle.sg_spec.specs.Tree.{Tree, numeral, here, param, add, neg, mul, div, power, sum_from, prod_from}
 use Rattle.sg_spec.specs.Generators.{all_sums, all_prods, with_new, concatenated, has_tree, sums, prods}
-use Rattle.sg_written.proofs.Bodies.{HasBody}
+use Rattle.sg_worth_theory.proofs.Bodies.{HasBody}
 use Rattle.sg_limits.proofs.Sounding.{bodies_of}
 use Rattle.sg_limits.proofs.Elementary.{each_append}
 

@@ -12,7 +12,7 @@ use Rattle.sg_spec.specs.Printing.{InForm}
 use Rattle.sg_spec.specs.Tree.{Tree, numeral, here, param, add, neg, mul, div, power, sum_from, prod_from}
 use Rattle.sg_spec.specs.Parts.{Part, Role, anywhere, divides, is_body, parts, own_part, numer, coefficients}
 use Rattle.sg_spec.specs.Faults.{Numbered, with_item, parts_from, parts_of, Vanishes, NoneZero, AreSpared}
-use Rattle.sg_written.proofs.Bodies.{HasValues}
+use Rattle.sg_worth_theory.proofs.Bodies.{HasValues}
 use Rattle.sg_limits.specs.Sound.{IsSound}
 use Rattle.sg_limits.proofs.Elementary.{each_append, each_left, each_right}
 use Rattle.sg_limits.proofs.SoundWorth.{spared_value}

@@ -9,7 +9,7 @@ use Rattle.sg_algebra.specs.Coefficients.{Each}
 use Rattle.sg_algebra.proofs.Lists.{each_to}
 use Rattle.sg_spec.specs.Tree.{Tree, numeral, here, param, add, neg, mul, div, power, sum_from, prod_from}
 use Rattle.sg_spec.specs.Generators.{all_sums, all_prods, concatenated, sums, prods, start, start_of}
-use Rattle.sg_written.proofs.Bodies.{StartsBy}
+use Rattle.sg_worth_theory.proofs.Bodies.{StartsBy}
 use Rattle.sg_limits.proofs.Elementary.{each_append}
 use Rattle.sg_limits.proofs.Bodies.{each_with_new}
 

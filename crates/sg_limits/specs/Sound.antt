@@ -5,7 +5,7 @@ use Rattle.sg_algebra.specs.Coefficients.{Each}
 use Rattle.sg_algebra.proofs.Value.{Value}
 use Rattle.sg_spec.specs.Tree.{Tree}
 use Rattle.sg_spec.specs.Generators.{sums, prods, start}
-use Rattle.sg_written.proofs.Bodies.{HasValues, HasBody, StartsBy}
+use Rattle.sg_worth_theory.proofs.Bodies.{HasValues, HasBody, StartsBy}
 
 module _ {d : ℕ} (letter : Value d) where
   pub record IsSound (a : ℤ) (es : List Tree) : Type 0 where

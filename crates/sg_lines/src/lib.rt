@@ -4,7 +4,7 @@
 mod pieces;
 mod whole;
 
-pub use pieces::{copied, first_line, words_of};
+pub use pieces::{first_line, words_of};
 pub use whole::{Unread, read_whole};
 
 #[cfg(test)]

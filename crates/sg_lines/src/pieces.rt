@@ -21,22 +21,11 @@ pub fn words_of(alloc: Global, line: &[u8]) -> Result<Row<Row<u8>>, AllocError>
     let mut rest = line;
     while let Some((word, more)) = first_piece(rest, b' ') {
         if !word.is_empty() {
-            words.push(copied(alloc, word)?)?;
+            words.push(Row::from_slice(alloc, word)?)?;
         }
         rest = more;
     }
     Ok(words)
-}
-
-/// The bytes, as a list of their own. The error is out of memory.
-pub fn copied(alloc: Global, bytes: &[u8]) -> Result<Row<u8>, AllocError>
-    ensures { IfOk result (λ row. row ≡ bytes.now) }
-{
-    let mut row = Row::new(alloc);
-    for b in bytes {
-        row.push(*b)?;
-    }
-    Ok(row)
 }
 
 // The piece before the first separator, and what stands after that; None exactly for the empty text.

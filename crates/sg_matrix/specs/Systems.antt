@@ -3,14 +3,19 @@
 --   IsEchelon v bs      the rows are in reduced echelon form: each has a pivot, with 1 there, 0 before it and 0 there in the other rows; the pivots ascend
 --   System K            a width, and rows; `system w bs` is the one of these
 --   IsSystem v w bs     the rows have the width and are in reduced echelon form
+--   ConstantsPlus v x c y r    the constants r are x + c y, place by place
 --   SameSpan v xs ys    the rows xs and the rows ys have the same combinations
-use Rattle.std.specs.Prelude.{◌≡◌, ℕ, ◌<◌, List, [], length, get_or, ◌↔◌}
-use Rattle.sg_algebra.proofs.Value.{Value, zero_value}
+use Rattle.std.specs.Prelude.{◌≡◌, ℕ, ◌<◌, List, [], length, map, get_or, ◌↔◌}
+use Rattle.sg_algebra.proofs.Value.{Value, ◌+ᵛ◌, ◌*ᵛ◌, zero_value}
+use Rattle.sg_algebra.proofs.Polynomial.{coefficient}
 use Rattle.sg_algebra.proofs.Linear.{row, unit, table, Span}
 
 pub record LeadsAt {d : ℕ} (f : ℕ → Value d) (p : ℕ) : Type 0 where
   pub zeros : (k : ℕ) → k < p → f k ≡ zero_value
   pub some : ¬ (f p ≡ zero_value)
+
+abbrev pub ConstantsPlus : {K : Type 0} {d : ℕ} → (K → Value d) → List K → Value d → List K → List K → Type 0
+ConstantsPlus v x c y r = (i : ℕ) → coefficient (map v r) i ≡ coefficient (map v x) i +ᵛ c *ᵛ coefficient (map v y) i
 
 pub record System (K : Type 0) : Type 0 where
   pub width : ℕ

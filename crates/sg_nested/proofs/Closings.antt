@@ -24,8 +24,8 @@ use Rattle.sg_build.specs.Expressions.{ExpressesOver, IsOverAlike, IsPrintedAlik
 use Rattle.sg_tele.specs.Telescoping.{IsAntidifference}
 use Rattle.sg_depth.specs.Commands.{AreSound, StandsOver, sums_of, prods_of}
 use Rattle.sg_depth_theory.proofs.Sums.{over-earlier}
-use Rattle.sg_nested_theory.proofs.Summing.{somewhere, no-sum, regular-start, closed-by}
-use Rattle.sg_nested_theory.proofs.Among.{canonical-among, inside-places}
+use Rattle.sg_depth_theory.proofs.Summing.{somewhere, no-sum, regular-start, closed-by}
+use Rattle.sg_depth_theory.proofs.Among.{canonical-among, inside-places}
 use Rattle.sg_nested.specs.Summands.{IsSummand, IsClosedForm, IsCanonicalForm, IsPrintedForm, HasNoClosedForm, AreFree, HasStart, IsTotal}
 
 each-of-places : (P : Tree → Type 0) (ss : List Tree) (m : ℕ) (places : List ℕ) → ((i : ℕ) → i < m → P (get_or ss i here)) → Each (λ i. i < m) places → Each P (at_places ss places)

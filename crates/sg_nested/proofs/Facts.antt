@@ -17,7 +17,7 @@ use Rattle.sg_spec.specs.Limits.{counted}
 use Rattle.sg_spec.specs.Printing.{InForm}
 use Rattle.sg_expr.specs.Tree.{tree_of}
 use Rattle.sg_expr.specs.declared.tree.Expr.{Expr}
-use Rattle.sg_written.proofs.Plain.{HasNoProduct, none_multiplied}
+use Rattle.sg_worth_theory.proofs.Plain.{HasNoProduct, none_multiplied}
 use Rattle.sg_value_theory.proofs.OwnSums.{distinct_has}
 use Rattle.sg_limits.specs.Counts.{AreFacts}
 use Rattle.sg_limits.specs.Sound.{IsSound}

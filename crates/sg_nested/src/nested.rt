@@ -11,7 +11,7 @@ ghost use Rattle.sg_spec.specs.Printing.{InForm};
 ghost use Rattle.sg_limits.specs.Counts.{AreFacts};
 ghost use Rattle.sg_build.specs.Letters.{letter, HasNoLetter};
 ghost use Rattle.sg_depth.specs.Commands.{AreSound, StandsOver, sums_of};
-ghost use Rattle.sg_written.proofs.Plain.{HasNoProduct};
+ghost use Rattle.sg_worth_theory.proofs.Plain.{HasNoProduct};
 ghost use Rattle.sg_nested.specs.Commands.{IsFirstClosed, HasNoFirst};
 ghost use Rattle.sg_nested.specs.Summands.{IsSummand, IsAnswer, AreFree};
 

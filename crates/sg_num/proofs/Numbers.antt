@@ -1,5 +1,6 @@
 -- The four steps, as steps in the field of fractions.
 --   den-positive                       the denominator is at least 1
+--   coprime_size                       numbers are coprime where their sizes are
 --   number-plus, -minus, -times, -over    what equals the schoolbook result is the sum, difference, product, quotient
 --   number-whole                       a whole number
 --   number-zero                        a fraction is 0 exactly where its numerator is
@@ -67,7 +68,7 @@ zero-number r e = zero_fraction_value r.num (unsigned_abs r.den) (den-positive r
 same_den : (d e : ℤ) → pos 0 <ℤ d → pos 0 <ℤ e → unsigned_abs d ≡ unsigned_abs e → d ≡ e
 same_den d e h k s = grind (arith, ints)
 
-coprime_size : (n : ℤ) (b : ℕ) → gcd (unsigned_abs n) b ≡ 1 → Coprime ℤR n (pos b)
+pub coprime_size : (n : ℤ) (b : ℕ) → gcd (unsigned_abs n) b ≡ 1 → Coprime ℤR n (pos b)
 coprime_size (pos n) b e = coprime_whole n b e
 coprime_size (negsuc n) b e = coprime_dvd ℤR (pos (suc n)) (pos b) (negsuc n) (record { cofactor = negsuc 0; is = omega (arith, ints) }) (coprime_whole (suc n) b e)
 

@@ -6,6 +6,7 @@
 --   multiple_num                          a fraction times a multiple of its denominator is whole
 --   raised_multiple                       a number times the denominator of its quotient by d is a multiple of d
 --   raised_some, raised_whole             it isn't 0, and is a multiple of that number
+--   raised_least                          and each common multiple is a multiple of it
 --   multiple_more                         a multiple of a multiple
 use Rattle.std.proofs.Common.{◌≡◌, ◌≢◌, subst, ℕ, ◌*◌, ◌%◌, ◌<◌, refl, sym, ◌∙◌, ap, ap₂, [], ◌∷◌, ℤ, pos, negsuc, neg_ℤ, ◌+ℤ◌, ◌-ℤ◌, ◌*ℤ◌, unsigned_abs, arith}
 use Rattle.std.proofs.Math.Nat.{mul-mod_left}
@@ -13,7 +14,8 @@ use Rattle.std.proofs.lemmas.Int.{ints, quot-rem, unsigned_abs-mul}
 use Rattle.std.specs.Int.RustNames.{int_div, int_rem}
 use Rattle.sg_algebra.specs.Fraction.{Same, whole, plus, minus, times, over}
 use Rattle.sg_algebra.proofs.Solver.{by, scale, reads}
-use Rattle.sg_algebra.proofs.Whole.{ℤR, readsℤ, mul_zeroℤ}
+use Rattle.sg_algebra.proofs.Whole.{ℤR, readsℤ, ℤD, mul_zeroℤ, positive_ne}
+use Rattle.sg_algebra.proofs.Coprime.{Coprime, coprime_symm, gauss}
 use Rattle.sg_algebra.proofs.Divisor.{gcd_one_right}
 use Rattle.sg_algebra.proofs.Value.{◌+ᵛ◌, ◌-ᵛ◌, ◌*ᵛ◌, ◌/ᵛ◌, zero_value}
 use Rattle.sg_algebra.proofs.ValueField.{ValueR, value_quotient}
@@ -21,7 +23,7 @@ use Rattle.sg_algebra.proofs.Rational.{whole_value, fraction_value-add, fraction
 use Rattle.sg_algebra.proofs.Embedding.{whole_value_zero}
 use Rattle.sg_num.specs.Value.{fraction, number}
 use Rattle.sg_num.specs.declared.rat.Rat.{Rat}
-use Rattle.sg_num.proofs.Numbers.{den-positive, number-plus, number-minus, number-times, number-over, number-whole, same-number}
+use Rattle.sg_num.proofs.Numbers.{den-positive, coprime_size, number-plus, number-minus, number-times, number-over, number-whole, same-number}
 use Rattle.sg_num.specs.Roots.{IsMultiple}
 
 pub whole_value-add : (a b : ℤ) → whole_value 0 (a +ℤ b) ≡ whole_value 0 a +ᵛ whole_value 0 b
@@ -120,6 +122,23 @@ pub raised_multiple : (l n : ℤ) (d : ℕ) (x y t : Rat) → fraction x ≡ who
 raised_multiple l n d x y t e f h s =
     let g = subst (λ u. Same (fraction t) (over u (whole (pos d)))) e (subst (λ u. Same (fraction t) (over (fraction x) u)) f h) in
     (t.num, s ∙ crossed t.num l (pos (fraction t).den) d g)
+
+both_ways : (k l p q j d m : ℤ) → l *ℤ q ≡ p *ℤ d → m ≡ k *ℤ l → m ≡ j *ℤ d → d *ℤ (p *ℤ k) ≡ d *ℤ (q *ℤ j)
+both_ways k l p q j d m e f g = by ℤR (k ∷ l ∷ p ∷ q ∷ j ∷ d ∷ m ∷ [])
+    (ℤR.add_cong (scale ℤR (neg_ℤ k) e) (ℤR.add_cong (scale ℤR (neg_ℤ q) f) (scale ℤR q g))) (search readsℤ depth 24) refl
+
+through : (m k l i q n : ℤ) → m ≡ k *ℤ l → k ≡ q *ℤ i → n ≡ l *ℤ q → m ≡ i *ℤ n
+through m k l i q n e f g = by ℤR (m ∷ k ∷ l ∷ i ∷ q ∷ n ∷ [])
+    (ℤR.add_cong e (ℤR.add_cong (scale ℤR l f) (scale ℤR (neg_ℤ i) g))) (search readsℤ depth 24) refl
+
+pub raised_least : (l n m : ℤ) (d : ℕ) (x y t : Rat) → 0 < d → fraction x ≡ whole l → fraction y ≡ whole (pos d) → Same (fraction t) (over (fraction x) (fraction y)) → n ≡ l *ℤ pos (fraction t).den → (k : ℤ) × (m ≡ k *ℤ l) → IsMultiple m d → (k : ℤ) × (m ≡ k *ℤ n)
+raised_least l n m d x y t some e f h s k j =
+    let g = subst (λ u. Same (fraction t) (over u (whole (pos d)))) e (subst (λ u. Same (fraction t) (over (fraction x) u)) f h) in
+    let q = (fraction t).den in
+    let same = both_ways k.0 l t.num (pos q) j.0 (pos d) m (crossed t.num l (pos q) d g) k.1 j.1 in
+    let apart : Coprime ℤR (pos q) t.num = coprime_symm ℤR t.num (pos q) (coprime_size t.num q t.lowest) in
+    let factor = gauss ℤR (pos q) t.num k.0 apart (record { cofactor = j.0; is = ℤD.cancel_mul (positive_ne d some) same }) in
+    (factor.cofactor, through m k.0 l factor.cofactor (pos q) n k.1 factor.is s)
 
 twice : (n l d h m : ℤ) → n ≡ h *ℤ l → l ≡ m *ℤ d → n ≡ (h *ℤ m) *ℤ d
 twice n l d h m e f = by ℤR (n ∷ l ∷ d ∷ h ∷ m ∷ []) (ℤR.add_cong e (scale ℤR h f)) (search readsℤ depth 20) refl

@@ -11,10 +11,12 @@ use crate::step::{Stop, Wide};
 use crate::whole::whole_product;
 use std::alloc::Global;
 
-/// A common multiple of the denominators, other than 0. It stops at a step that doesn't fit.
+/// The least common multiple of the denominators, up to its sign: every common multiple is a multiple of it. It stops at a step
+/// that doesn't fit.
 pub fn common_denominator(list: &[Rat]) -> Result<i128, Wide>
     ensures some { IfOk result (λ l. l ≢ pos 0) }
     ensures each { IfOk result (λ l. All (λ r. IsMultiple l (fraction r).den) list.now) }
+    ensures least { IfOk result (λ l. (m : ℤ) → All (λ r. IsMultiple m (fraction r).den) list.now → (k : ℤ) × (m ≡ k *ℤ l)) }
     ensures wide { IfErr result IsTooWide }
 {
     let mut multiple = 1;
@@ -24,12 +26,13 @@ pub fn common_denominator(list: &[Rat]) -> Result<i128, Wide>
     Ok(multiple)
 }
 
-// A common multiple of `l` and the denominator of `r`: `l` times the denominator of `l` over it.
+// The least common multiple of `l` and the denominator of `r`: `l` times the denominator of `l` over it.
 fn raised(l: i128, r: Rat) -> Result<i128, Wide>
     requires { l ≢ pos 0 }
     ensures some { IfOk result (λ n. n ≢ pos 0) }
     ensures whole { IfOk result (λ n. (k : ℤ) × (n ≡ k *ℤ l)) }
     ensures multiple { IfOk result (λ n. IsMultiple n (fraction r).den) }
+    ensures least { IfOk result (λ n. (m : ℤ) → (k : ℤ) × (m ≡ k *ℤ l) → IsMultiple m (fraction r).den → (k : ℤ) × (m ≡ k *ℤ n)) }
     ensures wide { IfErr result IsTooWide }
 {
     let quotient = Rat::whole(l).over(Rat::whole(r.den()))?;

@@ -264,9 +264,9 @@ impl Rat {
     }
 }
 
-// The greatest common divisor, by Euclid's divisions; the last of them, by 1, is not done.
+/// The greatest common divisor, by Euclid's divisions; the last of them, by 1, is not done.
 #[tactic(auto, using(sg_algebra::proofs::Divisor::gcd_step, sg_algebra::proofs::Divisor::gcd_end, sg_algebra::proofs::Divisor::gcd_one_right, sg_algebra::proofs::Divisor::gcd_positive))]
-fn gcd_of(a: u128, b: u128) -> u128
+pub fn gcd_of(a: u128, b: u128) -> u128
     ensures value { result ≡ gcd a b }
     ensures some { 0 < b → 0 < result }
 {

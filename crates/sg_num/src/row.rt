@@ -1,5 +1,5 @@
 ghost use Rattle.std.specs.List.{remove, insert};
-ghost use Rattle.std.specs.Prelude.{◌≡◌, ◌<◌, ◌≤◌, [], ◌∷◌, ◌++◌, ◌==◌, length, take, reverse, OnOk, OnErr, IfSome, IfNone, slice_index_or, slice_set};
+ghost use Rattle.std.specs.Prelude.{◌≡◌, ◌<◌, ◌≤◌, [], ◌∷◌, ◌++◌, ◌==◌, length, take, reverse, IfOk, OnOk, OnErr, IfSome, IfNone, slice_index_or, slice_set};
 
 use std::alloc::{AllocError, Global};
 use std::marker::Model;
@@ -129,5 +129,24 @@ impl<T: Drop> Row<T> {
         ensures { result.now ≡ self.now }
     {
         self.items.as_slice()
+    }
+}
+
+impl<T: Copy + Drop> Row<T> {
+    /// The list of the items of the slice. The error is out of memory.
+    pub fn from_slice(alloc: Global, list: &[T]) -> Result<Row<T>, AllocError>
+        ensures { IfOk result (λ r. r ≡ list.now) }
+    {
+        let mut row = Row::new(alloc);
+        row.extend_from_slice(list)?;
+        Ok(row)
+    }
+
+    /// Adds the items of the slice at the end. The error is out of memory; then the list is as it was.
+    pub fn extend_from_slice(&mut self, list: &[T]) -> Result<(), AllocError>
+        ensures ok { OnOk result (self.new ≡ self.old ++ list.now) }
+        ensures err { OnErr result (self.new ≡ self.old) }
+    {
+        self.items.extend_from_slice(list)
     }
 }

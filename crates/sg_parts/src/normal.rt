@@ -6,7 +6,7 @@ ghost use Rattle.sg_parts.specs.Normal.{row_gcd, plane_gcd, row_lead, plane_lead
 
 use crate::line::Line;
 use crate::planes::{row_at, width_of};
-use sg_num::Row;
+use sg_num::{Row, gcd_of};
 use std::alloc::{AllocError, Global};
 
 /// The polynomial in its normal form: over the powers of the variable rows over the powers of the parameter, without a common divisor
@@ -56,21 +56,6 @@ fn row_content(known: u128, list: &[i128]) -> u128
         g = gcd_of(g, c.unsigned_abs());
     }
     g
-}
-
-// The greatest common divisor, by Euclid's divisions.
-#[tactic(auto, using(sg_algebra::proofs::Divisor::gcd_step, sg_algebra::proofs::Divisor::gcd_end))]
-fn gcd_of(a: u128, b: u128) -> u128
-    ensures { result ≡ gcd a b }
-{
-    let mut x = a;
-    let mut y = b;
-    while y > 0 {
-        let rest = x % y;
-        x = y;
-        y = rest;
-    }
-    x
 }
 
 // The last number other than 0 of the last row that has one.

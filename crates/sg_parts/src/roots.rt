@@ -3,23 +3,7 @@ ghost use Rattle.sg_spec.specs.Parts.{leading, trimmed, cauchy};
 ghost use Rattle.sg_parts.specs.Planes.{IsLightRow, IsLight, IsRootOf, VanishesAt, IsLeastZero, LimitsZeros, lowest, greatest};
 
 use crate::line::Line;
-
-// How many numbers there are up to the last that isn't 0.
-pub fn length_of(list: &[i128]) -> usize
-    ensures within { result ≤ length list.now }
-    ensures zeros { (k : ℕ) → result ≤ k → get_or list.now k (pos 0) ≡ pos 0 }
-    ensures last { 0 < result → get_or list.now (result - 1) (pos 0) ≢ pos 0 }
-{
-    let mut n = list.len();
-    while n > 0 {
-        if list[n - 1] == 0 {
-            n -= 1;
-        } else {
-            return n;
-        }
-    }
-    0
-}
+use sg_num::length_of;
 
 // The sum.
 pub fn sum(a: i128, b: i128) -> i128

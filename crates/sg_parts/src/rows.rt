@@ -2,7 +2,7 @@ ghost use Rattle.std.specs.Prelude.{◌≡◌, [], ◌∷◌, ◌+◌, ◌*◌, 
 ghost use Rattle.sg_parts.specs.Planes.{row_size, entry, moved, row_product, SameRow};
 
 use crate::line::Line;
-use crate::roots::{length_of, sum};
+use crate::roots::sum;
 use std::alloc::{AllocError, Global};
 
 // Adds the product of both lists.

@@ -3,7 +3,7 @@
 --   row_step        Horner's rule, from the last coefficient of a row on
 --   front_same, front_ends    a list without the zeros at its end
 --   cut_same, cut_trimmed     such lists without the empty ones at the end
-use Rattle.std.proofs.Common.{◌≡◌, ◌≢◌, ℕ, zero, suc, ◌<◌, ◌≤◌, refl, sym, ◌∙◌, ap, List, [], ◌∷◌, length, take, drop, get_or, ℤ, pos, ◌⊎◌, inl, inr, arith}
+use Rattle.std.proofs.Common.{◌≡◌, ◌≢◌, ℕ, zero, suc, ◌-◌, ◌<◌, ◌≤◌, refl, sym, ◌∙◌, ap, List, [], ◌∷◌, length, take, drop, get_or, ℤ, pos, ◌⊎◌, inl, inr, arith}
 use Rattle.sg_algebra.specs.Coefficients.{eval}
 use Rattle.sg_algebra.proofs.Value.{Value, ◌+ᵛ◌, ◌*ᵛ◌}
 use Rattle.sg_algebra.proofs.ValueField.{ValueR}
@@ -47,10 +47,11 @@ front_same xs n l z k = elim (split k n) [
   | inr g ↦ past (take n xs) k (omega (arith, front_length xs n l)) ∙ sym (z k g)
 ]
 
-pub front_ends : (xs : List ℤ) (n : ℕ) → n ≤ length xs → ((k : ℕ) → n ≡ suc k → get_or xs k (pos 0) ≢ pos 0) → EndsNotZero (take n xs)
+pub front_ends : (xs : List ℤ) (n : ℕ) → n ≤ length xs → (0 < n → get_or xs (n - 1) (pos 0) ≢ pos 0) → EndsNotZero (take n xs)
 front_ends xs n l h m e z =
     let same : n ≡ suc m = sym (front_length xs n l) ∙ e in
-    h m same (sym (front xs n m (omega arith)) ∙ z)
+    let last : n - 1 ≡ m = omega (arith, same) in
+    h (omega (arith, same)) (ap (λ k. get_or xs k (pos 0)) last ∙ sym (front xs n m (omega (arith, same))) ∙ z)
 
 -- ---- Rows of rows
 

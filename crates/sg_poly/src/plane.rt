@@ -6,7 +6,7 @@ ghost use Rattle.sg_num.specs.Value.{number};
 ghost use Rattle.sg_algebra.proofs.Tables.{Each};
 ghost use Rattle.sg_poly.specs.Plane.{entry, row_at, plane_at, IsTrimmed, IsFront};
 
-use sg_num::{Rat, Row, Stop, Wide};
+use sg_num::{Rat, Row, Stop, Wide, length_of};
 use std::alloc::Global;
 use std::marker::Model;
 
@@ -68,33 +68,12 @@ impl Poly2 {
     }
 }
 
-// How many numbers there are up to the last that isn't 0.
-fn length_of(list: &[i128]) -> usize
-    ensures within { result ≤ length list.now }
-    ensures zeros { (k : ℕ) → result ≤ k → get_or list.now k (pos 0) ≡ pos 0 }
-    ensures last { (k : ℕ) → result ≡ suc k → get_or list.now k (pos 0) ≢ pos 0 }
-{
-    let mut n = list.len();
-    while n > 0 {
-        if list[n - 1] == 0 {
-            n -= 1;
-        } else {
-            return n;
-        }
-    }
-    0
-}
-
 // The row without the zeros at its end.
 fn trimmed(alloc: Global, list: &[i128]) -> Result<Row<i128>, Stop>
     ensures value { IfOk result (IsFront list.now) }
     ensures memory { IfErr result IsMemory }
 {
-    let n = length_of(list);
-    let mut row = Row::new(alloc);
-    for i in 0..n {
-        row.push(list[i])?;
-    }
+    let row = Row::from_slice(alloc, &list[..length_of(list)])?;
     Ok(row)
 }
 

@@ -9,7 +9,7 @@ use Rattle.sg_algebra.proofs.Solver.{ring, reads}
 use Rattle.sg_algebra.proofs.Value.{Value, ◌+ᵛ◌, ◌*ᵛ◌, ◌/ᵛ◌, neg_value, inv_value, zero_value, one_value}
 use Rattle.sg_algebra.proofs.ValueField.{ValueR, value_quotient}
 use Rattle.sg_spec.specs.Fraction.{Fraction, whole}
-use Rattle.sg_spec.specs.Polynomials.{variable_power, monomial, with_term, with_terms, numerator, leads_below_zero, canonical}
+use Rattle.sg_polysum.specs.Plain.{variable_power, monomial, with_term, with_terms, numerator, leads_below_zero, canonical}
 use Rattle.sg_spec.specs.Tree.{Tree, numeral, neg, mul, div}
 use Rattle.sg_spec.specs.Value.{val, both, quotient_of}
 use Rattle.sg_spec.proofs.Values.{val-proper, IsProper}

@@ -10,7 +10,8 @@ use Rattle.sg_algebra.proofs.ValueField.{value_quotient, value_mul_comm}
 use Rattle.sg_num.specs.declared.rat.Rat.{Rat}
 use Rattle.sg_spec.specs.Closed.{Closed, IsOverOwn}
 use Rattle.sg_spec.specs.Generators.{Over, all_sums, all_prods, sums, prods, distinct, start_of}
-use Rattle.sg_spec.specs.Polynomials.{IsPolynomial, variable_power, monomial, with_term, with_terms, numerator, leads_below_zero, canonical}
+use Rattle.sg_spec.specs.Polynomials.{IsPolynomial}
+use Rattle.sg_polysum.specs.Plain.{variable_power, monomial, with_term, with_terms, numerator, leads_below_zero, canonical}
 use Rattle.sg_spec.specs.Printing.{InForm}
 use Rattle.sg_spec.specs.Tree.{Tree, numeral, here, param, add, neg, mul, div, power, sum_from, prod_from}
 use Rattle.sg_spec.specs.Value.{val}

@@ -8,3 +8,5 @@ pub mod Closing
 pub mod Slopes
 pub mod LinearTrees
 pub mod LinearSums
+pub mod OneTerm
+pub mod PlainCanonical

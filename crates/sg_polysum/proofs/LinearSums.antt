@@ -16,7 +16,9 @@ use Rattle.sg_algebra.proofs.Value.{Value, ◌+ᵛ◌, ◌-ᵛ◌, ◌*ᵛ◌, �
 use Rattle.sg_algebra.proofs.ValueField.{ValueR, value_quotient, value_product}
 use Rattle.sg_spec.specs.Closed.{Closed, IsOverOwn}
 use Rattle.sg_spec.specs.Generators.{prods}
-use Rattle.sg_spec.specs.Polynomials.{IsPolynomial, canonical, common_divisor}
+use Rattle.sg_spec.specs.Polynomials.{IsPolynomial}
+use Rattle.sg_canonical.specs.Whole.{common_divisor}
+use Rattle.sg_polysum.specs.Plain.{canonical}
 use Rattle.sg_spec.specs.Printing.{InForm}
 use Rattle.sg_spec.specs.Tree.{Tree}
 use Rattle.sg_spec.proofs.Worth.{total_worth, whole_value-before}

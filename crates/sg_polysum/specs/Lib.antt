@@ -3,3 +3,4 @@ pub mod Telescoping
 pub mod Terms
 pub mod Linear
 pub mod Lines
+pub mod Plain

@@ -7,7 +7,9 @@ use Rattle.std.specs.Prelude.{◌≡◌, ℕ, ◌+◌, ◌≤◌, ◌<◌, ℤ, 
 use Rattle.sg_algebra.proofs.Rational.{whole_value}
 use Rattle.sg_algebra.proofs.Value.{Value, ◌+ᵛ◌, ◌-ᵛ◌, ◌*ᵛ◌, zero_value, one_value}
 use Rattle.sg_spec.specs.Limits.{degrees}
-use Rattle.sg_spec.specs.Polynomials.{weight, canonical, common_divisor}
+use Rattle.sg_spec.specs.Polynomials.{weight}
+use Rattle.sg_canonical.specs.Whole.{common_divisor}
+use Rattle.sg_polysum.specs.Plain.{canonical}
 use Rattle.sg_spec.specs.Tree.{Tree}
 use Rattle.sg_spec.specs.Value.{val}
 use Rattle.sg_spec.proofs.Worth.{Worth}

@@ -6,7 +6,7 @@ use Rattle.sg_algebra.proofs.Ring.{pow}
 use Rattle.sg_algebra.proofs.Rational.{whole_value}
 use Rattle.sg_algebra.proofs.Value.{Value, ◌+ᵛ◌, ◌*ᵛ◌, zero_value}
 use Rattle.sg_algebra.proofs.ValueField.{ValueR}
-use Rattle.sg_spec.specs.Polynomials.{monomial}
+use Rattle.sg_polysum.specs.Plain.{monomial}
 use Rattle.sg_spec.specs.Tree.{Tree, neg}
 
 abbrev pub term : ℤ → ℕ → Tree

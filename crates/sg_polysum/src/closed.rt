@@ -4,7 +4,8 @@ ghost use Rattle.sg_num.specs.Stopped.{IsMemory, KeepsWideStep};
 ghost use Rattle.sg_polysum.specs.Linear.{IsLinear};
 ghost use Rattle.sg_spec.specs.Closed.{Closed};
 ghost use Rattle.sg_spec.specs.Limits.{degrees};
-ghost use Rattle.sg_spec.specs.Polynomials.{IsPolynomial, IsCanonical, weight};
+ghost use Rattle.sg_spec.specs.Polynomials.{IsPolynomial, weight};
+ghost use Rattle.sg_polysum.specs.Plain.{IsCanonical};
 ghost use Rattle.sg_spec.specs.Printing.{InForm};
 
 use crate::coefficients::collected;

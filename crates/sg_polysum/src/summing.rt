@@ -3,7 +3,7 @@ ghost use Rattle.sg_expr.specs.Tree.{tree_of};
 ghost use Rattle.sg_num.specs.Stopped.{IsMemory};
 ghost use Rattle.sg_canonical.specs.Whole.{IsSmall};
 ghost use Rattle.sg_polysum.specs.Linear.{IsSummed};
-ghost use Rattle.sg_spec.specs.Polynomials.{canonical};
+ghost use Rattle.sg_polysum.specs.Plain.{canonical};
 
 use crate::linear::{Linear, multiplied, plus};
 use crate::terms::canonical_tree;

@@ -5,7 +5,7 @@ ghost use Rattle.sg_num.specs.Stopped.{IsMemory, KeepsWideStep};
 ghost use Rattle.sg_canonical.specs.Whole.{IsSmall};
 ghost use Rattle.sg_polysum.specs.Terms.{term};
 ghost use Rattle.sg_spec.specs.Tree.{numeral, add, neg, div};
-ghost use Rattle.sg_spec.specs.Polynomials.{variable_power, monomial, with_term, with_terms, numerator, leads_below_zero, canonical};
+ghost use Rattle.sg_polysum.specs.Plain.{variable_power, monomial, with_term, with_terms, numerator, leads_below_zero, canonical};
 
 use sg_canonical::{opposite, opposites};
 use sg_expr::Expr;

@@ -16,7 +16,8 @@ use Rattle.sg_laurent.specs.Elements.{element}
 use Rattle.sg_tower.specs.Elements.{IsSum, IsMultiple, IsCopy}
 use Rattle.sg_products.specs.declared.partial.Partial.{Partial}
 use Rattle.sg_products.specs.Readings.{count, laurents}
-use Rattle.sg_products.specs.Solving.{ConstantsPlus, partial_consts, partial_value, partial_left, shift_of, IsExtended, IsCombined, IsStartRow, StartFrom}
+use Rattle.sg_matrix.specs.Systems.{ConstantsPlus}
+use Rattle.sg_products.specs.Solving.{partial_consts, partial_value, partial_left, shift_of, IsExtended, IsCombined, IsStartRow, StartFrom}
 
 take_next : {X : Type 0} (xs : List X) (i : ℕ) (x : X) → i < length xs → x ≡ get_or xs i x → take (i + 1) xs ≡ take i xs ++ x ∷ []
 take_next xs i x l e = take_more xs i x l ∙ ap (λ z. take i xs ++ z ∷ []) (sym e)

@@ -7,7 +7,7 @@ use Rattle.sg_algebra.proofs.Lists.{length_map}
 use Rattle.sg_algebra.proofs.Place.{Pairwise}
 use Rattle.sg_algebra.proofs.Value.{Value, zero_value}
 use Rattle.sg_algebra.proofs.ValueField.{ValueF}
-use Rattle.sg_theory.proofs.Listed.{poly_coprime}
+use Rattle.sg_dispersion_theory.proofs.Listed.{poly_coprime}
 use Rattle.sg_tower_theory.proofs.Flat.{Term as FormalTerm, IsAfter, IsFlat, IsLowestForm, DescendingTerms, of_term, of_terms}
 use Rattle.sg_tower_theory.proofs.Formal.{no_sums}
 use Rattle.sg_tower_theory.proofs.Products.{LaurentsR}

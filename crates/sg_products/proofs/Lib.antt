@@ -6,3 +6,4 @@ pub mod Combining
 pub mod Slicing
 pub mod Growing
 pub mod Supporting
+pub mod FirstOrder

@@ -16,7 +16,7 @@ use Rattle.sg_algebra.proofs.Ring.{O_add}
 use Rattle.sg_algebra.proofs.Shift.{moved}
 use Rattle.sg_algebra.proofs.Value.{Value, zero_value, one_value, over_value, ◌*ᵛ◌}
 use Rattle.sg_algebra.proofs.ValueField.{ValueR, ValueF, ValueD}
-use Rattle.sg_shift.proofs.ShiftValue.{shift_value, shift_value-over}
+use Rattle.sg_algebra.proofs.ShiftValue.{shift_value, shift_value-over}
 use Rattle.sg_tower_theory.specs.Powers.{powers}
 use Rattle.sg_tower_theory.proofs.ShiftValue.{rational_functions}
 use Rattle.sg_tower_theory.proofs.Products.{Exponents, listed, LaurentsR}

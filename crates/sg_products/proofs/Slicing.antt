@@ -22,8 +22,8 @@ use Rattle.sg_tower_theory.proofs.Products.{Exponents, listed, zeros, LaurentsR,
 use Rattle.sg_tower_theory.proofs.ShiftValue.{rational_functions}
 use Rattle.sg_tower_theory.proofs.Slices.{IsState, differences, pairwise_each, pairwise_to}
 use Rattle.sg_tower_theory.proofs.Starting.{Starts}
-use Rattle.sg_first_order.specs.Solutions.{pair, IsBasis}
-use Rattle.sg_bottom_theory.proofs.FirstOrder.{inner_sound, inner_complete}
+use Rattle.sg_first_order_theory.specs.Solutions.{pair, IsBasis}
+use Rattle.sg_products.proofs.FirstOrder.{inner_sound, inner_complete}
 use Rattle.sg_matrix.specs.declared.solution.Solution.{Solution}
 use Rattle.sg_ratfun.specs.Fractions.{ratio}
 use Rattle.sg_laurent.specs.declared.terms.Term.{Term}

@@ -1,6 +1,5 @@
 -- The recursion over the exponents of the products, where v says which value a constant has and αs are the factors of the products.
 --   exponents_in n es               a list of exponents, as one exponent for each of n products
---   ConstantsPlus v x c y r         the constants r are x + c y, place by place
 --   partial_consts v w, partial_value v αs w, partial_left v αs w    what a row stands for
 --   IsExtended v αs acc c row r     r is acc + c row
 --   IsCombined v αs c rows r        r is the sum of the rows with constants as factors
@@ -21,6 +20,7 @@ use Rattle.sg_tower_theory.proofs.ShiftValue.{rational_functions}
 use Rattle.sg_tower_theory.proofs.Products.{Exponents, LaurentsR, coefficient as coefficient_at}
 use Rattle.sg_tower_theory.proofs.ProductSlices.{monomial, Inside}
 use Rattle.sg_tower_theory.proofs.Slices.{IsState, differences}
+use Rattle.sg_matrix.specs.Systems.{ConstantsPlus}
 use Rattle.sg_matrix.specs.declared.solution.Solution.{Solution}
 use Rattle.sg_ratfun.specs.Fractions.{ratio}
 use Rattle.sg_laurent.specs.declared.terms.Term.{Term}
@@ -32,9 +32,6 @@ abbrev pub exponents_in : (n : ℕ) → List ℤ → Exponents n
 exponents_in zero es = tt
 exponents_in (suc n) [] = (pos 0, exponents_in n [])
 exponents_in (suc n) (e ∷ es) = (e, exponents_in n es)
-
-abbrev pub ConstantsPlus : {K : Type 0} {d : ℕ} → (K → Value d) → List K → Value d → List K → List K → Type 0
-ConstantsPlus v x c y r = (i : ℕ) → coefficient (map v r) i ≡ coefficient (map v x) i +ᵛ c *ᵛ coefficient (map v y) i
 
 module _ {K : Type 0} {d : ℕ} (v : K → Value d) where
   abbrev pub partial_consts : Partial K → ℕ → Value d

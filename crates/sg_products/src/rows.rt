@@ -1,15 +1,15 @@
 ghost use Rattle.std.specs.Prelude.{◌≡◌, ℕ, ◌<◌, IfOk, IfErr, length, map};
 ghost use Rattle.sg_algebra.proofs.Polynomial.{coefficient as coefficient_at};
-ghost use Rattle.sg_algebra.proofs.Linear.{unit};
 ghost use Rattle.sg_num.specs.Stopped.{KeepsWideStep};
 ghost use Rattle.sg_tower.specs.Elements.{IsSum, IsDifference, IsMultiple, IsCopy};
 ghost use Rattle.sg_ratfun.specs.Fractions.{ratio};
 ghost use Rattle.sg_laurent.specs.Elements.{Same, element};
 ghost use Rattle.sg_products.specs.Readings.{count, laurents};
-ghost use Rattle.sg_products.specs.Solving.{ConstantsPlus, IsExtended, IsCombined, StartRows, power_at};
+ghost use Rattle.sg_products.specs.Solving.{IsExtended, IsCombined, StartRows, power_at};
 
 use crate::partial::Partial;
 use sg_laurent::{Laurent, Term};
+use sg_matrix::{constant, plus_constants, unit_row};
 use sg_num::{Field, Row, Stop};
 use sg_ratfun::RatFun;
 use smallvec::SmallVec;
@@ -61,34 +61,6 @@ fn extended<F: Field>(
         value,
         left,
     })
-}
-
-// x + c y.
-fn plus_constants<F: Field>(alloc: Global, x: &Row<F>, c: &F, y: &Row<F>) -> Result<Row<F>, Stop>
-    ensures value { IfOk result (ConstantsPlus F.val x.now (F.val c.now) y.now) }
-    ensures wide { IfErr result KeepsWideStep }
-{
-    let mut r = Row::new(alloc);
-    for i in 0..x.len().max(y.len()) {
-        let a = constant(alloc, x, i)?;
-        let b = constant(alloc, y, i)?.mul(alloc, c)?;
-        r.push(a.add(alloc, &b)?)?;
-    }
-    Ok(r)
-}
-
-// The constant at `i`: 0 past the end.
-fn constant<F: Field>(alloc: Global, cs: &Row<F>, i: usize) -> Result<F, Stop>
-    ensures value { IfOk result (λ r. F.val r ≡ coefficient_at (map F.val cs.now) i) }
-    ensures wide { IfErr result KeepsWideStep }
-{
-    if i < cs.len() {
-        let c = cs.get(i).copy(alloc)?;
-        Ok(c)
-    } else {
-        let c = F::zero(alloc)?;
-        Ok(c)
-    }
 }
 
 /// The sum of two elements.
@@ -188,31 +160,4 @@ fn copy_of<F: Field>(
 {
     let r = x.copy(alloc, alphas.len())?;
     Ok(r)
-}
-
-// 1 at `i`, 0 at the other places below `n`.
-fn unit_row<F: Field>(alloc: Global, n: usize, i: usize) -> Result<Row<F>, Stop>
-    requires { i < n }
-    ensures value { IfOk result (λ r. (j : ℕ) → coefficient_at (map F.val r) j ≡ unit i j) }
-    ensures wide { IfErr result KeepsWideStep }
-{
-    let mut r = Row::new(alloc);
-    for j in 0..n {
-        r.push(unit_entry(alloc, i, j)?)?;
-    }
-    Ok(r)
-}
-
-// The entry at `j`: 1 where it is `i`, else 0.
-fn unit_entry<F: Field>(alloc: Global, i: usize, j: usize) -> Result<F, Stop>
-    ensures value { IfOk result (λ r. F.val r ≡ unit i j) }
-    ensures wide { IfErr result KeepsWideStep }
-{
-    if i == j {
-        let one = F::one(alloc)?;
-        Ok(one)
-    } else {
-        let zero = F::zero(alloc)?;
-        Ok(zero)
-    }
 }

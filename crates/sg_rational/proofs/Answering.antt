@@ -16,15 +16,15 @@ use Rattle.sg_algebra.proofs.Polynomial.{Polynomial, PolynomialR, poly, coeffici
 use Rattle.sg_poly.specs.Divisors.{◌∣ᵖ◌}
 use Rattle.sg_poly.specs.Polynomials.{polynomial}
 use Rattle.sg_ratfun.specs.Fractions.{ratio}
-use Rattle.sg_first_order.specs.Solutions.{Pair, IsBasis}
-use Rattle.sg_first_order.proofs.ValueFractions.{whole}
-use Rattle.sg_first_order.proofs.Weighted.{Cleared}
-use Rattle.sg_first_order.proofs.FirstOrder.{IsReduced, reduced_first}
-use Rattle.sg_first_order.proofs.System.{columns}
-use Rattle.sg_first_order.proofs.Basis.{IsBound, IsSpace, pair_of, is_basis}
+use Rattle.sg_first_order_theory.specs.Solutions.{Pair, IsBasis}
+use Rattle.sg_first_order_theory.proofs.ValueFractions.{whole}
+use Rattle.sg_first_order_theory.proofs.Weighted.{Cleared}
+use Rattle.sg_first_order_theory.proofs.FirstOrder.{IsReduced, reduced_first}
+use Rattle.sg_first_order_theory.proofs.System.{columns}
+use Rattle.sg_first_order_theory.proofs.Basis.{IsBound, IsSpace, pair_of, is_basis}
 use Rattle.sg_rational.specs.Reductions.{Apart, IsReduction}
 use Rattle.sg_rational.specs.Systems.{IsFilled, Sends}
-use Rattle.sg_first_order.proofs.Bounded.{cleared_value, cleared_some}
+use Rattle.sg_first_order_theory.proofs.Bounded.{cleared_value, cleared_some}
 use Rattle.sg_rational.proofs.Degrees.{map-map}
 use Rattle.sg_rational.proofs.Filling.{space_filled, lists_short}
 

@@ -13,11 +13,11 @@ use Rattle.sg_algebra.proofs.Shift.{moved}
 use Rattle.sg_algebra.proofs.Value.{Value, ◌*ᵛ◌}
 use Rattle.sg_algebra.proofs.ValueField.{ValueR}
 use Rattle.sg_algebra.proofs.Polynomial.{Polynomial, PolynomialR, zero_polynomial, neg_polynomial, poly, ◌*ᵖ◌, ◌-ᵖ◌}
-use Rattle.sg_first_order.proofs.Next.{next, next-mul, moved-iter_next}
-use Rattle.sg_first_order.proofs.FirstOrder.{left}
-use Rattle.sg_first_order.proofs.Under.{powers, powers-more, monomial, variable}
-use Rattle.sg_first_order.proofs.ValueFractions.{whole}
-use Rattle.sg_first_order.proofs.Weighted.{Cleared}
+use Rattle.sg_first_order_theory.proofs.Next.{next, next-mul, moved-iter_next}
+use Rattle.sg_first_order_theory.proofs.FirstOrder.{left}
+use Rattle.sg_first_order_theory.proofs.Under.{powers, powers-more, monomial, variable}
+use Rattle.sg_first_order_theory.proofs.ValueFractions.{whole}
+use Rattle.sg_first_order_theory.proofs.Weighted.{Cleared}
 use Rattle.sg_rational.proofs.Degrees.{map-map}
 
 take_next : {A : Type 0} (xs : List A) (i : ℕ) (x : A) → i < length xs → x ≡ get_or xs i x → take (i + 1) xs ≡ take i xs ++ x ∷ []

@@ -22,10 +22,10 @@ use Rattle.sg_spec.specs.Fraction.{Fraction, whole}
 use Rattle.sg_num.specs.Value.{fraction, number}
 use Rattle.sg_num.specs.declared.rat.Rat.{Rat}
 use Rattle.sg_poly.specs.Polynomials.{polynomial}
-use Rattle.sg_first_order.proofs.Bounds.{indicial}
-use Rattle.sg_first_order.proofs.Basis.{IsBound}
-use Rattle.sg_first_order.proofs.Naturals.{number_is, ceiling_is, numeral_same}
-use Rattle.sg_first_order.proofs.Bounded.{bounded_first, bounded_second}
+use Rattle.sg_first_order_theory.proofs.Bounds.{indicial}
+use Rattle.sg_first_order_theory.proofs.Basis.{IsBound}
+use Rattle.sg_first_order_theory.proofs.Naturals.{number_is, ceiling_is, numeral_same}
+use Rattle.sg_first_order_theory.proofs.Bounded.{bounded_first, bounded_second}
 
 side : (k n : ℕ) → (k < n) ⊎ (n ≤ k)
 side k n = grind arith

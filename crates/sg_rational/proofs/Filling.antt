@@ -11,11 +11,11 @@ use Rattle.sg_algebra.proofs.Value.{Value, zero_value}
 use Rattle.sg_algebra.proofs.Polynomial.{Polynomial, poly, coefficient, neg_polynomial}
 use Rattle.sg_matrix.specs.Systems.{IsSystem, SameSpan}
 use Rattle.sg_matrix.proofs.Spans.{row_against, null_span, span_row, all_pushed, span_push, span_last}
-use Rattle.sg_first_order.proofs.FirstOrder.{left}
-use Rattle.sg_first_order.proofs.Under.{powers, length-powers}
-use Rattle.sg_first_order.proofs.Weighted.{weighted}
-use Rattle.sg_first_order.proofs.System.{rest_of, columns, row_of, null_solves, solves_null, row_past}
-use Rattle.sg_first_order.proofs.Basis.{IsSpace}
+use Rattle.sg_first_order_theory.proofs.FirstOrder.{left}
+use Rattle.sg_first_order_theory.proofs.Under.{powers, length-powers}
+use Rattle.sg_first_order_theory.proofs.Weighted.{weighted}
+use Rattle.sg_first_order_theory.proofs.System.{rest_of, columns, row_of, null_solves, solves_null, row_past}
+use Rattle.sg_first_order_theory.proofs.Basis.{IsSpace}
 use Rattle.sg_rational.specs.Systems.{Sends, IsFilled}
 
 split : (k n : ℕ) → (k < n) ⊎ (n ≤ k)

@@ -11,9 +11,9 @@ use Rattle.sg_num.specs.Roots.{IsRoot}
 use Rattle.sg_poly.proofs.Dividers.{monic_some}
 use Rattle.sg_ratfun.specs.Fractions.{ratio}
 use Rattle.sg_ratfun.specs.Reduced.{IsReduced}
-use Rattle.sg_theory.proofs.Listed.{poly_coprime}
-use Rattle.sg_first_order.specs.Solutions.{Pair, pair, IsBasis}
-use Rattle.sg_first_order.proofs.NoPole.{Free, FreeFrom, lowest_free, basis_free, free_from, free_at}
+use Rattle.sg_dispersion_theory.proofs.Listed.{poly_coprime}
+use Rattle.sg_first_order_theory.specs.Solutions.{Pair, pair, IsBasis}
+use Rattle.sg_first_order_theory.proofs.NoPole.{Free, FreeFrom, lowest_free, basis_free, free_from, free_at}
 
 each_of_map : {B C : Type 0} (P : C → Type 0) (f : B → C) (xs : List B) → Each P (map f xs) → Each (λ x. P (f x)) xs
 each_of_map P f [] h = tt

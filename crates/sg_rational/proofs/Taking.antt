@@ -22,9 +22,9 @@ use Rattle.sg_algebra.proofs.Rational.{whole_value}
 use Rattle.sg_algebra.proofs.Polynomial.{Polynomial, PolynomialR, PolynomialD, ListR, poly, poly_cong, same_list, same_poly, coefficient, poly-mul, polynomial_factor, zero_polynomial, one_polynomial, ◌*ᵖ◌}
 use Rattle.sg_poly.specs.Divisors.{◌∣ᵖ◌, IsGcd}
 use Rattle.sg_poly.specs.Polynomials.{polynomial}
-use Rattle.sg_theory.proofs.Listed.{poly_dvd, coprime_poly}
-use Rattle.sg_first_order.proofs.Reduction.{reduction_start as start, images, images-first, reduction_step, coprime_step, coprime_after}
-use Rattle.sg_first_order.proofs.Next.{next, nextH, next-mul, next-one, next-zero, next_keeps, iter_next, bezout_polynomial}
+use Rattle.sg_dispersion_theory.proofs.Listed.{poly_dvd, coprime_poly}
+use Rattle.sg_first_order_theory.proofs.Reduction.{reduction_start as start, images, images-first, reduction_step, coprime_step, coprime_after}
+use Rattle.sg_first_order_theory.proofs.Next.{next, nextH, next-mul, next-one, next-zero, next_keeps, iter_next, bezout_polynomial}
 use Rattle.sg_spread.specs.Shifts.{Meets}
 use Rattle.sg_rational.specs.Reductions.{Apart, IsReduction, Advances}
 

@@ -6,8 +6,8 @@ use Rattle.std.specs.Prelude.{◌≡◌, ℕ}
 use Rattle.sg_algebra.proofs.Divides.{iter}
 use Rattle.sg_algebra.proofs.Coprime.{Coprime}
 use Rattle.sg_algebra.proofs.Polynomial.{Polynomial, PolynomialR, PolynomialD, zero_polynomial}
-use Rattle.sg_first_order.proofs.Reduction.{Reduction}
-use Rattle.sg_first_order.proofs.Next.{nextH}
+use Rattle.sg_first_order_theory.proofs.Reduction.{Reduction}
+use Rattle.sg_first_order_theory.proofs.Next.{nextH}
 
 module _ {d : ℕ} where
   abbrev pub Apart : Polynomial d → Polynomial d → ℕ → Type 0

@@ -5,7 +5,7 @@
 use Rattle.std.specs.Prelude.{◌≡◌, ℕ, ◌<◌, List, [], length, map, get_or}
 use Rattle.sg_algebra.proofs.Value.{Value, zero_value}
 use Rattle.sg_algebra.proofs.Linear.{row_times}
-use Rattle.sg_first_order.proofs.System.{row_of}
+use Rattle.sg_first_order_theory.proofs.System.{row_of}
 
 module _ {K : Type 0} {d : ℕ} (v : K → Value d) where
   abbrev pub Sends : List (List K) → (ℕ → Value d) → Type 0

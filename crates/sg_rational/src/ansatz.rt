@@ -5,11 +5,11 @@ ghost use Rattle.sg_num.specs.Stopped.{KeepsWideStep};
 ghost use Rattle.sg_poly.specs.Divisors.{◌∣ᵖ◌};
 ghost use Rattle.sg_poly.specs.Polynomials.{polynomial};
 ghost use Rattle.sg_ratfun.specs.Fractions.{ratio};
-ghost use Rattle.sg_first_order.specs.Solutions.{pair, IsBasis};
-ghost use Rattle.sg_first_order.proofs.ValueFractions.{whole};
-ghost use Rattle.sg_first_order.proofs.Weighted.{Cleared};
-ghost use Rattle.sg_first_order.proofs.FirstOrder.{IsReduced};
-ghost use Rattle.sg_first_order.proofs.Basis.{pair_of};
+ghost use Rattle.sg_first_order_theory.specs.Solutions.{pair, IsBasis};
+ghost use Rattle.sg_first_order_theory.proofs.ValueFractions.{whole};
+ghost use Rattle.sg_first_order_theory.proofs.Weighted.{Cleared};
+ghost use Rattle.sg_first_order_theory.proofs.FirstOrder.{IsReduced};
+ghost use Rattle.sg_first_order_theory.proofs.Basis.{pair_of};
 
 use crate::degree::bound;
 use crate::denominator::{cleared, common_denominator};

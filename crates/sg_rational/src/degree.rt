@@ -5,9 +5,9 @@ ghost use Rattle.sg_algebra.proofs.ValueField.{ValueR};
 ghost use Rattle.sg_algebra.proofs.Polynomial.{coefficient, zero_polynomial};
 ghost use Rattle.sg_num.specs.Stopped.{KeepsWideStep};
 ghost use Rattle.sg_poly.specs.Polynomials.{polynomial};
-ghost use Rattle.sg_theory.proofs.Terms.{earlier};
-ghost use Rattle.sg_first_order.proofs.Bounds.{indicial};
-ghost use Rattle.sg_first_order.proofs.Basis.{IsBound};
+ghost use Rattle.sg_dispersion_theory.proofs.Terms.{earlier};
+ghost use Rattle.sg_first_order_theory.proofs.Bounds.{indicial};
+ghost use Rattle.sg_first_order_theory.proofs.Basis.{IsBound};
 
 use sg_num::{Field, Rat, Row, Stop};
 use sg_poly::Poly;

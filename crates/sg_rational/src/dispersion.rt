@@ -7,8 +7,8 @@ ghost use Rattle.sg_algebra.proofs.ValueField.{ValueR};
 ghost use Rattle.sg_num.specs.Stopped.{KeepsWideStep};
 ghost use Rattle.sg_poly.specs.Divisors.{IsMonic, IsGcd};
 ghost use Rattle.sg_poly.specs.Polynomials.{polynomial};
-ghost use Rattle.sg_first_order.proofs.Next.{next, nextH};
-ghost use Rattle.sg_first_order.proofs.Reduction.{images};
+ghost use Rattle.sg_first_order_theory.proofs.Next.{next, nextH};
+ghost use Rattle.sg_first_order_theory.proofs.Reduction.{images};
 ghost use Rattle.sg_rational.specs.Reductions.{Apart, IsReduction, Advances};
 
 use sg_num::{Field, Stop};

@@ -2,7 +2,7 @@ ghost use Rattle.std.specs.Prelude.{◌≡◌, map, IfOk, IfErr};
 ghost use Rattle.sg_algebra.proofs.Value.{zero_value};
 ghost use Rattle.sg_num.specs.Stopped.{KeepsWideStep};
 ghost use Rattle.sg_ratfun.specs.Fractions.{ratio};
-ghost use Rattle.sg_first_order.specs.Solutions.{pair, IsBasis};
+ghost use Rattle.sg_first_order_theory.specs.Solutions.{pair, IsBasis};
 
 use crate::ansatz::solve_by_denominators;
 use sg_constant::solve_constant;

@@ -3,10 +3,10 @@ ghost use Rattle.sg_algebra.proofs.Polynomial.{neg_polynomial, ◌-ᵖ◌, ◌*�
 ghost use Rattle.sg_num.specs.Stopped.{KeepsWideStep};
 ghost use Rattle.sg_matrix.specs.Systems.{IsSystem};
 ghost use Rattle.sg_poly.specs.Polynomials.{polynomial};
-ghost use Rattle.sg_first_order.proofs.FirstOrder.{left};
-ghost use Rattle.sg_first_order.proofs.Under.{powers, variable as the_variable};
-ghost use Rattle.sg_first_order.proofs.System.{columns as the_columns, row_of};
-ghost use Rattle.sg_first_order.proofs.Basis.{IsSpace};
+ghost use Rattle.sg_first_order_theory.proofs.FirstOrder.{left};
+ghost use Rattle.sg_first_order_theory.proofs.Under.{powers, variable as the_variable};
+ghost use Rattle.sg_first_order_theory.proofs.System.{columns as the_columns, row_of};
+ghost use Rattle.sg_first_order_theory.proofs.Basis.{IsSpace};
 ghost use Rattle.sg_rational.specs.Systems.{IsFilled};
 
 use crate::degree::{coefficient_at, longest};

@@ -12,7 +12,7 @@ use Rattle.sg_algebra.specs.Coefficients.{Each}
 use Rattle.sg_algebra.proofs.Solver.{ring, reads}
 use Rattle.sg_algebra.proofs.Value.{Value, neg_value}
 use Rattle.sg_algebra.proofs.ValueField.{ValueR, ValueF}
-use Rattle.sg_shift.proofs.ShiftValue.{shift_valueH}
+use Rattle.sg_algebra.proofs.ShiftValue.{shift_valueH}
 use Rattle.sg_tower_theory.specs.Powers.{powers}
 use Rattle.sg_relations_theory.specs.Rows.{multiple_row}
 use Rattle.sg_relations_theory.specs.Relations.{Holds, AllZero, OnlyZeros, Expresses, Relates}

@@ -9,9 +9,9 @@ use Rattle.sg_algebra.proofs.PolynomialLowest.{unit_constant}
 use Rattle.sg_algebra.proofs.Value.{Value, one_value}
 use Rattle.sg_algebra.proofs.ValueField.{ValueR, ValueF, ValueD}
 use Rattle.sg_algebra.proofs.Polynomial.{Polynomial, PolynomialR, PolynomialD, poly, poly_same, constant, one_polynomial}
-use Rattle.sg_theory.proofs.Listed.{list_of, poly-list_of, poly_dvd}
-use Rattle.sg_first_order.proofs.Next.{next, nextH, next-constant, unit_denominator}
-use Rattle.sg_first_order.proofs.ValueFractions.{value_fractions}
+use Rattle.sg_dispersion_theory.proofs.Listed.{list_of, poly-list_of, poly_dvd}
+use Rattle.sg_first_order_theory.proofs.Next.{next, nextH, next-constant, unit_denominator}
+use Rattle.sg_first_order_theory.proofs.ValueFractions.{value_fractions}
 use Rattle.sg_relations_theory.proofs.RatioTheorem.{Rel, rel, inside}
 
 module _ (d : ℕ) where

@@ -13,7 +13,7 @@ use Rattle.sg_algebra.proofs.Value.{Value, ◌*ᵛ◌}
 use Rattle.sg_algebra.proofs.ValueField.{ValueR, ValueF}
 use Rattle.sg_algebra.proofs.Whole.{ℤR, readsℤ}
 use Rattle.sg_algebra.proofs.WholeDivisors.{unit_abs}
-use Rattle.sg_shift.proofs.ShiftValue.{shift_value, shift_valueH}
+use Rattle.sg_algebra.proofs.ShiftValue.{shift_value, shift_valueH}
 use Rattle.sg_tower_theory.specs.Powers.{powers}
 use Rattle.sg_relations_theory.specs.Rows.{multiple_row}
 use Rattle.sg_relations_theory.specs.Relations.{Holds, OnlyZeros, Expresses, Relates}

@@ -17,7 +17,7 @@ use Rattle.sg_algebra.proofs.ValueField.{ValueR, ValueF}
 use Rattle.sg_algebra.proofs.Rational.{fraction_value-mul, fraction_value-one, fraction_value-zero, fraction_value-neg, same_fraction_value}
 use Rattle.sg_algebra.proofs.Embedding.{constant_value}
 use Rattle.sg_algebra.proofs.Polynomial.{Polynomial, PolynomialR, PolynomialD, one_polynomial, neg_polynomial}
-use Rattle.sg_first_order.proofs.ValueFractions.{value_fractions, whole}
+use Rattle.sg_first_order_theory.proofs.ValueFractions.{value_fractions, whole}
 use Rattle.sg_tower_theory.specs.Powers.{powers}
 use Rattle.sg_relations_theory.specs.Rows.{total}
 use Rattle.sg_relations_theory.specs.Relations.{IsSign}

@@ -10,8 +10,8 @@ use Rattle.sg_algebra.proofs.Ring.{O_mul}
 use Rattle.sg_algebra.proofs.Divides.{Divides, iter, dvd_refl}
 use Rattle.sg_algebra.proofs.Coprime.{Coprime, coprime_symm, coprime-mul, coprime_unit}
 use Rattle.sg_algebra.proofs.Field.{field_cancel}
-use Rattle.sg_first_order.proofs.Terminal.{Sides}
-use Rattle.sg_first_order.proofs.Fractions.{Fractions, Solves, solution_sides, whole_part}
+use Rattle.sg_first_order_theory.proofs.Terminal.{Sides}
+use Rattle.sg_first_order_theory.proofs.Fractions.{Fractions, Solves, solution_sides, whole_part}
 use Rattle.sg_relations_theory.proofs.Apart.{Apart, apart-mul_left, apart_unit, unit_coprime}
 use Rattle.sg_relations_theory.proofs.PowerLaws.{Some}
 use Rattle.sg_relations_theory.proofs.Similar.{on-inv}

@@ -4,7 +4,7 @@ use Rattle.std.proofs.Common.{◌≡◌, refl, sym, ◌∙◌, ap, inr}
 use Rattle.sg_algebra.proofs.Solver.{ring, reads}
 use Rattle.sg_algebra.proofs.Value.{Value, ◌*ᵛ◌, neg_value, one_value}
 use Rattle.sg_algebra.proofs.ValueField.{ValueR, ValueF, value_one_ne}
-use Rattle.sg_shift.proofs.ShiftValue.{shift_value-one}
+use Rattle.sg_algebra.proofs.ShiftValue.{shift_value-one}
 use Rattle.sg_tower_theory.specs.Powers.{powers}
 use Rattle.sg_relations_theory.specs.Rows.{total}
 use Rattle.sg_relations_theory.specs.Relations.{Expresses, Holds, IsSign}

@@ -10,9 +10,9 @@ use Rattle.sg_algebra.proofs.Value.{Value, zero_value, ◌+ᵛ◌}
 use Rattle.sg_algebra.proofs.ValueField.{ValueR, ValueF}
 use Rattle.sg_algebra.proofs.Rational.{whole_value}
 use Rattle.sg_algebra.proofs.Polynomial.{Polynomial, PolynomialR, PolynomialD, ListR, poly, poly_cong, zero_polynomial}
-use Rattle.sg_first_order.proofs.Next.{nextH, iter_next}
-use Rattle.sg_shift.proofs.ShiftValue.{shift_value, shift_valueH}
-use Rattle.sg_first_order.proofs.ValueFractions.{value_fractions, whole, whole-next}
+use Rattle.sg_first_order_theory.proofs.Next.{nextH, iter_next}
+use Rattle.sg_algebra.proofs.ShiftValue.{shift_value, shift_valueH}
+use Rattle.sg_first_order_theory.proofs.ValueFractions.{value_fractions, whole, whole-next}
 use Rattle.sg_relations_theory.proofs.PowerLaws.{Some}
 use Rattle.sg_relations_theory.proofs.RatioTheorem.{inside}
 use Rattle.sg_relations_theory.proofs.Generators.{ι_some}

@@ -11,9 +11,9 @@ use Rattle.sg_algebra.proofs.Value.{Value, neg_value, one_value, ◌*ᵛ◌, ◌
 use Rattle.sg_algebra.proofs.ValueField.{ValueR, ValueF}
 use Rattle.sg_algebra.proofs.Embedding.{numeral_ne}
 use Rattle.sg_algebra.proofs.Polynomial.{Polynomial, PolynomialR, PolynomialD, neg_polynomial, one_polynomial, zero_polynomial, same_poly, poly-add, ◌+ᵖ◌}
-use Rattle.sg_first_order.proofs.Next.{nextH}
-use Rattle.sg_shift.proofs.ShiftValue.{shift_value, shift_valueH}
-use Rattle.sg_first_order.proofs.ValueFractions.{value_fractions}
+use Rattle.sg_first_order_theory.proofs.Next.{nextH}
+use Rattle.sg_algebra.proofs.ShiftValue.{shift_value, shift_valueH}
+use Rattle.sg_first_order_theory.proofs.ValueFractions.{value_fractions}
 use Rattle.sg_tower_theory.specs.Powers.{powers}
 use Rattle.sg_relations_theory.specs.Rows.{total}
 use Rattle.sg_relations_theory.specs.Relations.{IsRatio, Holds, IsSign}

@@ -15,7 +15,7 @@ use Rattle.std.specs.Prelude.{◌≡◌, ℕ, suc, List, [], ◌∷◌, ◌++◌
 use Rattle.sg_algebra.specs.Coefficients.{Each}
 use Rattle.sg_algebra.proofs.Value.{Value, ◌*ᵛ◌, neg_value, zero_value, one_value}
 use Rattle.sg_algebra.proofs.ValueField.{ValueF}
-use Rattle.sg_shift.proofs.ShiftValue.{shift_value}
+use Rattle.sg_algebra.proofs.ShiftValue.{shift_value}
 use Rattle.sg_tower_theory.specs.Powers.{powers}
 use Rattle.sg_relations_theory.specs.Rows.{multiple_row, total}
 

@@ -5,7 +5,6 @@ use Rattle.sg_spec.specs.Fraction.{whole}
 use Rattle.sg_spec.specs.Tree.{Tree, numeral, here, param, neg, add, mul, div, power, sum_from, prod_from}
 use Rattle.sg_spec.specs.Value.{val, total, SameValue}
 use Rattle.sg_spec.specs.Limits.{counted, too_steep}
-use Rattle.sg_spec.specs.Polynomials.{canonical}
 use Rattle.sg_spec.specs.Generators.{sums, start, BuiltOver}
 
 -- the tree of H(k)
@@ -42,15 +41,6 @@ sums-order = refl
 -- the sum of 1/j from 5 on begins at 4
 start-inner : start (sum_from (pos 5) (div (numeral (pos 1)) here) ∷ []) (pos 1) ≡ pos 4
 start-inner = refl
-
--- the closed form of the sum of -k^2 from 1 on
-canonical-negative : canonical (negsuc 1 ∷ negsuc 2 ∷ negsuc 0 ∷ pos 0 ∷ []) 6
-    ≡ neg (div (add (add (mul (numeral (pos 2)) (power here 3)) (mul (numeral (pos 3)) (power here 2))) here) (numeral (pos 6)))
-canonical-negative = refl
-
--- m^2-m+1, over 1
-canonical-whole : canonical (pos 0 ∷ pos 1 ∷ negsuc 0 ∷ pos 1 ∷ []) 1 ≡ add (add (power here 2) (neg here)) (numeral (pos 1))
-canonical-whole = refl
 
 -- (k^32)^3 is too steep, and ((k^32)^32)^0 isn't
 counted-steep : counted (here ∷ power (power here 32) 3 ∷ []) ≡ Some (too_steep 2)

@@ -24,11 +24,11 @@ use Rattle.sg_algebra.proofs.ValueField.{ValueR, ValueF, value_one_ne}
 use Rattle.sg_algebra.proofs.Rational.{whole_value}
 use Rattle.sg_algebra.proofs.Embedding.{whole_value_zero}
 use Rattle.sg_algebra.proofs.Polynomial.{PolynomialR, poly, zero_polynomial, poly_cong, same_list, same_poly, poly-mul, ◌*ᵖ◌}
-use Rattle.sg_theory.proofs.Listed.{coprime_poly, poly_coprime, poly_degree}
-use Rattle.sg_theory.proofs.Radical.{constant_unit, divisor_degree}
-use Rattle.sg_theory.proofs.Splits.{split_coprime, of_roots as roots_list, linear as linear_list}
+use Rattle.sg_dispersion_theory.proofs.Listed.{coprime_poly, poly_coprime, poly_degree}
+use Rattle.sg_dispersion_theory.proofs.Radical.{constant_unit, divisor_degree}
+use Rattle.sg_dispersion_theory.proofs.Splits.{split_coprime, of_roots as roots_list, linear as linear_list}
 use Rattle.sg_num.specs.Scaled.{scaled}
-use Rattle.sg_theory.proofs.Scaling.{times, of_scaled, scaled_coprime, unscaled_coprime}
+use Rattle.sg_dispersion_theory.proofs.Scaling.{times, of_scaled, scaled_coprime, unscaled_coprime}
 use Rattle.sg_num.specs.Roots.{IsRoot}
 use Rattle.sg_spread.specs.Shifts.{Meets}
 use Rattle.sg_spread.specs.Splits.{linear, of_roots}

@@ -22,9 +22,9 @@ use Rattle.sg_num.specs.Probe.{IsProbe}
 use Rattle.sg_num.specs.Value.{number}
 use Rattle.sg_num.specs.declared.rat.Rat.{Rat}
 use Rattle.sg_poly.specs.Divisors.{IsMonic}
-use Rattle.sg_theory.proofs.Probed.{ProbedPair, probed}
-use Rattle.sg_theory.proofs.ValueCertificate.{monic_length}
-use Rattle.sg_theory.proofs.Listed.{coprime_poly, poly_coprime, poly_dvd}
+use Rattle.sg_dispersion_theory.proofs.Probed.{ProbedPair, probed}
+use Rattle.sg_dispersion_theory.proofs.ValueCertificate.{monic_length}
+use Rattle.sg_dispersion_theory.proofs.Listed.{coprime_poly, poly_coprime, poly_dvd}
 use Rattle.sg_num.specs.Roots.{IsRoot}
 use Rattle.sg_spread.specs.Shifts.{Meets}
 use Rattle.sg_spread.proofs.Apart.{meets_or_coprime}

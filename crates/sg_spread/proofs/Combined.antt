@@ -13,8 +13,8 @@ use Rattle.sg_algebra.proofs.Polynomial.{coefficient}
 use Rattle.sg_algebra.proofs.Rows.{Builds, past_row}
 use Rattle.sg_num.specs.Value.{number}
 use Rattle.sg_num.specs.declared.rat.Rat.{Rat}
-use Rattle.sg_theory.proofs.Horner.{powers, none_stands, first_stands}
-use Rattle.sg_theory.proofs.StepRow.{Stands, step_at}
+use Rattle.sg_dispersion_theory.proofs.Horner.{powers, none_stands, first_stands}
+use Rattle.sg_dispersion_theory.proofs.StepRow.{Stands, step_at}
 
 pub built_as : (f g : ℕ → Value 0) (n : ℕ) (xs : List Rat) → Builds number f n xs → ((p : ℕ) → p < n → f p ≡ g p) → Builds number g n xs
 built_as f g n xs b h = record { size = b.size; built = λ k l. b.built k l ∙ h k l }

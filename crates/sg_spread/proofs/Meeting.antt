@@ -18,8 +18,8 @@ use Rattle.sg_algebra.proofs.Rational.{whole_value}
 use Rattle.sg_algebra.proofs.Polynomial.{Polynomial, PolynomialR, poly, constant, coefficient, EndsNonzero, zero_polynomial, one_polynomial, poly_same, poly_cong, same_poly, same_list, poly-mul, ◌*ᵖ◌}
 use Rattle.sg_algebra.proofs.Rows.{at_past}
 use Rattle.sg_poly.specs.Divisors.{◌∣ᵖ◌, IsMonic, IsGcd}
-use Rattle.sg_theory.proofs.Listed.{list_of, poly-list_of, poly_dvd}
-use Rattle.sg_theory.proofs.ValueCertificate.{monic_length}
+use Rattle.sg_dispersion_theory.proofs.Listed.{list_of, poly-list_of, poly_dvd}
+use Rattle.sg_dispersion_theory.proofs.ValueCertificate.{monic_length}
 use Rattle.sg_spread.specs.Shifts.{Meets}
 
 -- ---- Constants

@@ -12,11 +12,11 @@ use Rattle.sg_algebra.proofs.NullSpace.{axis_one}
 use Rattle.sg_algebra.proofs.Tables.{get_below, get_last, push_size}
 use Rattle.sg_num.specs.Value.{number}
 use Rattle.sg_num.specs.declared.rat.Rat.{Rat}
-use Rattle.sg_theory.proofs.Step.{iterate}
-use Rattle.sg_theory.proofs.StepRow.{Stands, step_at}
-use Rattle.sg_theory.proofs.ValueRows.{step_built}
-use Rattle.sg_theory.proofs.Certificate.{Certificate}
-use Rattle.sg_theory.proofs.PowerTable.{null_certificate, basis_some}
+use Rattle.sg_dispersion_theory.proofs.Step.{iterate}
+use Rattle.sg_dispersion_theory.proofs.StepRow.{Stands, step_at}
+use Rattle.sg_dispersion_theory.proofs.ValueRows.{step_built}
+use Rattle.sg_dispersion_theory.proofs.Certificate.{Certificate}
+use Rattle.sg_dispersion_theory.proofs.PowerTable.{null_certificate, basis_some}
 use Rattle.sg_spread.specs.Powers.{ArePowers, IsNullBasis, IsSome}
 
 pub product_some : (m n : ℕ) → 0 < m → 0 < n → 0 < m * n

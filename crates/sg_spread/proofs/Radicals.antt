@@ -11,7 +11,7 @@ use Rattle.sg_algebra.proofs.Value.{Value}
 use Rattle.sg_algebra.proofs.ValueField.{ValueR}
 use Rattle.sg_algebra.proofs.Rational.{whole_value}
 use Rattle.sg_algebra.proofs.Polynomial.{Polynomial, PolynomialR, poly, zero_polynomial, one_polynomial, ◌*ᵖ◌}
-use Rattle.sg_theory.proofs.Radical.{IsRadical, coprime_of_radicals}
+use Rattle.sg_dispersion_theory.proofs.Radical.{IsRadical, coprime_of_radicals}
 use Rattle.sg_poly.specs.Divisors.{IsGcd}
 use Rattle.sg_spread.specs.Shifts.{Meets}
 use Rattle.sg_spread.proofs.Apart.{meets_or_coprime, meets_common}

@@ -15,8 +15,8 @@ use Rattle.sg_algebra.proofs.Value.{Value, ◌+ᵛ◌, ◌*ᵛ◌, neg_value, ze
 use Rattle.sg_algebra.proofs.ValueField.{ValueR, ValueF, ValueD, value_one_ne}
 use Rattle.sg_algebra.proofs.Rational.{whole_value}
 use Rattle.sg_algebra.proofs.Polynomial.{poly, poly_same, coefficient, same_list, poly-mul, poly-add, zero_polynomial, ◌+ᵖ◌, ◌*ᵖ◌}
-use Rattle.sg_theory.proofs.Listed.{poly_degree}
-use Rattle.sg_theory.proofs.Splits.{of_roots as roots_list, linear as linear_list}
+use Rattle.sg_dispersion_theory.proofs.Listed.{poly_degree}
+use Rattle.sg_dispersion_theory.proofs.Splits.{of_roots as roots_list, linear as linear_list}
 use Rattle.sg_num.specs.Roots.{IsRoot}
 use Rattle.sg_spread.specs.Splits.{linear, of_roots}
 use Rattle.sg_spread.proofs.Apart.{listed_roots}

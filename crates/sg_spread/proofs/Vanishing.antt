@@ -12,8 +12,8 @@ use Rattle.sg_algebra.proofs.Value.{Value}
 use Rattle.sg_algebra.proofs.ValueField.{ValueR}
 use Rattle.sg_num.specs.Value.{number}
 use Rattle.sg_num.specs.declared.rat.Rat.{Rat}
-use Rattle.sg_theory.proofs.Certificate.{Certificate}
-use Rattle.sg_theory.proofs.ValueCertificate.{root_of_common}
+use Rattle.sg_dispersion_theory.proofs.Certificate.{Certificate}
+use Rattle.sg_dispersion_theory.proofs.ValueCertificate.{root_of_common}
 use Rattle.sg_spread.specs.Powers.{IsSome}
 use Rattle.sg_num.specs.Roots.{IsRoot}
 

@@ -17,10 +17,10 @@ use Rattle.sg_algebra.proofs.Linear.{row_times, Span, table, Form}
 use Rattle.sg_num.specs.Roots.{IsRoot}
 use Rattle.sg_num.specs.Value.{number}
 use Rattle.sg_num.specs.declared.rat.Rat.{Rat}
-use Rattle.sg_theory.proofs.Step.{iterate}
-use Rattle.sg_theory.proofs.StepRow.{Stands, step_at}
-use Rattle.sg_theory.proofs.Certificate.{Certificate}
-use Rattle.sg_theory.proofs.PowerTable.{PowerTable}
+use Rattle.sg_dispersion_theory.proofs.Step.{iterate}
+use Rattle.sg_dispersion_theory.proofs.StepRow.{Stands, step_at}
+use Rattle.sg_dispersion_theory.proofs.Certificate.{Certificate}
+use Rattle.sg_dispersion_theory.proofs.PowerTable.{PowerTable}
 use Rattle.sg_spread.specs.Shifts.{AreCoprimeAt}
 
 abbrev pub ArePowers : (d e : ℕ) → List (Value 0) → List (Value 0) → List (List Rat) → Type 0

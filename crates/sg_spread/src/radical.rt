@@ -4,7 +4,7 @@ ghost use Rattle.sg_algebra.proofs.Polynomial.{zero_polynomial};
 ghost use Rattle.sg_num.specs.Stopped.{KeepsWideStep};
 ghost use Rattle.sg_num.specs.Value.{number};
 ghost use Rattle.sg_poly.specs.Polynomials.{polynomial};
-ghost use Rattle.sg_theory.proofs.Radical.{IsRadical};
+ghost use Rattle.sg_dispersion_theory.proofs.Radical.{IsRadical};
 ghost use Rattle.sg_spread.specs.Shifts.{Meets};
 
 use crate::elimination::eliminated;

@@ -1,5 +1,4 @@
 -- Polynomials in a sum t, as lists of items: ρ says which formal tower is below and which of its elements an item stands for, v which value a constant has.
---   ConstantsPlus v x c y r       the constants r are x + c y, place by place
 --   at_place ρ p n                the coefficient of p at n
 --   IsPlace ρ p n r               r is that coefficient
 --   ZeroFrom ρ p n                the coefficients from n on are 0
@@ -35,14 +34,12 @@ use Rattle.sg_tower_theory.proofs.Slices.{Map, IsState, IsSides, differences}
 use Rattle.sg_tower_theory.proofs.PowerSlices.{power_slice}
 use Rattle.sg_tower_theory.proofs.Starting.{Starts}
 use Rattle.sg_tower_theory.proofs.Formal.{Element, elements, shifted}
+use Rattle.sg_matrix.specs.Systems.{ConstantsPlus}
 use Rattle.sg_matrix.specs.declared.solution.Solution.{Solution}
 use Rattle.sg_sums.specs.declared.partial.Partial.{Partial}
 use Rattle.sg_tower.specs.Elements.{Reading, Same, IsOne, consts_of, value_of}
 
 -- the constants x + c y
-abbrev pub ConstantsPlus : {K : Type 0} {d : ℕ} → (K → Value d) → List K → Value d → List K → List K → Type 0
-ConstantsPlus v x c y r = (i : ℕ) → coefficient (map v r) i ≡ coefficient (map v x) i +ᵛ c *ᵛ coefficient (map v y) i
-
 module _ {d : ℕ} {E : Type 0} (ρ : Reading d E) where
   abbrev pub PolysR : Ring
   PolysR = PolyR (elements ρ.formal)

@@ -4,9 +4,8 @@ ghost use Rattle.sg_num.specs.Stopped.{KeepsWideStep};
 ghost use Rattle.sg_tower.specs.Elements.{IsZero, AllSolve, IsComplete};
 ghost use Rattle.sg_sums.specs.Polynomials.{IsTrivial};
 
-use crate::powers::unit_row;
 use crate::sums::zero_from;
-use sg_matrix::Solution;
+use sg_matrix::{Solution, unit_row};
 use sg_num::{Row, Stop};
 use sg_tower::Tower;
 use std::alloc::Global;

@@ -2,19 +2,18 @@ ghost use Rattle.std.specs.Prelude.{◌≡◌, ℕ, ◌<◌, ◌≤◌, ◌+◌,
 ghost use Rattle.sg_algebra.specs.Coefficients.{Each};
 ghost use Rattle.sg_algebra.proofs.Value.{Value, ◌+ᵛ◌, ◌*ᵛ◌, zero_value, one_value};
 ghost use Rattle.sg_algebra.proofs.Polynomial.{coefficient as coefficient_at};
-ghost use Rattle.sg_algebra.proofs.Linear.{unit};
 ghost use Rattle.sg_algebra.proofs.Place.{Pairwise};
 ghost use Rattle.sg_num.specs.Stopped.{KeepsWideStep};
 ghost use Rattle.sg_tower_theory.proofs.Formal.{shifted, elements, one_more};
 ghost use Rattle.sg_tower_theory.proofs.Difference.{Solves, Spanned};
 ghost use Rattle.sg_tower.specs.Elements.{raised, AllSolve, IsComplete, IsShifted};
-ghost use Rattle.sg_sums.specs.Polynomials.{IsPlace, ConstantsPlus, IsExtended, IsCombined, State, Sides, IsNextRow, StartRows, IsFinished};
+ghost use Rattle.sg_sums.specs.Polynomials.{IsPlace, IsExtended, IsCombined, State, Sides, IsNextRow, StartRows, IsFinished};
 
 use crate::constants::all_solutions;
 use crate::partial::Partial;
 use crate::poly1::Poly1;
 use crate::polys::{added, behind, coefficient, joined, low_difference, monomial, scaled, times};
-use sg_matrix::Solution;
+use sg_matrix::{Solution, constant, plus_constants};
 use sg_num::{Field, Row, Stop};
 use sg_tower::Tower;
 use std::alloc::Global;
@@ -35,19 +34,6 @@ pub(crate) fn shifted_poly<T: Tower>(
         let product = times(alloc, below, beta, &r)?;
         let moved = behind(a, r)?;
         r = joined(alloc, below, moved, product)?;
-    }
-    Ok(r)
-}
-
-// 1 at `i`, 0 at the other places below `n`.
-pub(crate) fn unit_row<F: Field>(alloc: Global, n: usize, i: usize) -> Result<Row<F>, Stop>
-    requires { i < n }
-    ensures value { IfOk result (λ r. (j : ℕ) → coefficient_at (map F.val r) j ≡ unit i j) }
-    ensures wide { IfErr result KeepsWideStep }
-{
-    let mut r = Row::new(alloc);
-    for j in 0..n {
-        r.push(unit_entry(alloc, i, j)?)?;
     }
     Ok(r)
 }
@@ -111,20 +97,6 @@ pub(crate) fn finished<K: Drop, E: Drop>(
         })?;
     }
     Ok(answer)
-}
-
-// The entry at `j`: 1 where it is `i`, else 0.
-fn unit_entry<F: Field>(alloc: Global, i: usize, j: usize) -> Result<F, Stop>
-    ensures value { IfOk result (λ r. F.val r ≡ unit i j) }
-    ensures wide { IfErr result KeepsWideStep }
-{
-    if i == j {
-        let one = F::one(alloc)?;
-        Ok(one)
-    } else {
-        let zero = F::zero(alloc)?;
-        Ok(zero)
-    }
 }
 
 // The coefficients at `n` of what is left.
@@ -213,20 +185,6 @@ pub(crate) fn combined<T: Tower>(
     Ok(sum)
 }
 
-// The constant at `i`: 0 past the end.
-fn constant<F: Field>(alloc: Global, cs: &Row<F>, i: usize) -> Result<F, Stop>
-    ensures value { IfOk result (λ r. F.val r ≡ coefficient_at (map F.val cs.now) i) }
-    ensures wide { IfErr result KeepsWideStep }
-{
-    if i < cs.len() {
-        let c = cs.get(i).copy(alloc)?;
-        Ok(c)
-    } else {
-        let c = F::zero(alloc)?;
-        Ok(c)
-    }
-}
-
 // acc + c row.
 fn extended<T: Tower>(
     alloc: Global,
@@ -251,18 +209,4 @@ fn extended<T: Tower>(
         value,
         left,
     })
-}
-
-// x + c y.
-fn plus_constants<F: Field>(alloc: Global, x: &Row<F>, c: &F, y: &Row<F>) -> Result<Row<F>, Stop>
-    ensures value { IfOk result (ConstantsPlus F.val x.now (F.val c.now) y.now) }
-    ensures wide { IfErr result KeepsWideStep }
-{
-    let mut r = Row::new(alloc);
-    for i in 0..x.len().max(y.len()) {
-        let a = constant(alloc, x, i)?;
-        let b = constant(alloc, y, i)?.mul(alloc, c)?;
-        r.push(a.add(alloc, &b)?)?;
-    }
-    Ok(r)
 }

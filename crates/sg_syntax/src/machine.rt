@@ -106,8 +106,5 @@ impl Machine {
 fn put(stack: &mut Vec<Symbol>, parts: &[Symbol]) -> Result<(), AllocError>
     ensures { OnOk result (stack.new.items ≡ stack.old.items ++ parts.now) }
 {
-    for i in 0..parts.len() {
-        stack.push(parts[i])?;
-    }
-    Ok(())
+    stack.extend_from_slice(parts)
 }

@@ -2,7 +2,6 @@
 #![tactic(auto)]
 
 mod bounds;
-mod bytes;
 mod check;
 mod convert;
 mod fault;

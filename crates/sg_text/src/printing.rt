@@ -9,7 +9,6 @@ ghost use Rattle.sg_text.specs.Reads.{IsFree};
 ghost use Rattle.sg_text.specs.PrintedText.{next_bound, sign_of, is_one, is_numeral, is_here, is_minus_here, power_order, harmonic_order, is_falling, is_quotient, body_form, product_form, written, written_sum, left_of, level_of, is_below, text_at, added_text, limit_text, call_text, plain, printed};
 ghost use Rattle.sg_expr.specs.Tree.{tree_of};
 
-use crate::bytes::push_all;
 use itoa::Buffer;
 use sg_expr::Expr;
 use sg_num::Row;
@@ -121,7 +120,7 @@ fn push_number(out: &mut Row<u8>, n: u128) -> Result<(), AllocError>
     ensures { OnOk result (out.new ≡ out.old ++ decimal n) }
 {
     let mut buffer = Buffer::new();
-    push_all(out, buffer.format(n).as_bytes())
+    out.extend_from_slice(buffer.format(n).as_bytes())
 }
 
 // Writes what follows the left operand of a sum.
@@ -284,17 +283,17 @@ fn push_head(word: &[u8], from: i64, scope: Scope, out: &mut Row<u8>) -> Result<
     ensures { OnOk result (out.new ≡ out.old ++ (word.now ++ (40 ∷ (scope.bound ∷ (44 ∷
         (limit_text (sign_of from) (unsigned_abs from) ++ (44 ∷ (scope.variable ∷ (44 ∷ []))))))))) }
 {
-    push_all(out, word)?;
-    push_all(out, &[b'(', scope.bound, b','])?;
+    out.extend_from_slice(word)?;
+    out.extend_from_slice(&[b'(', scope.bound, b','])?;
     push_limit(out, from)?;
-    push_all(out, &[b',', scope.variable, b','])
+    out.extend_from_slice(&[b',', scope.variable, b','])
 }
 
 fn push_limit(out: &mut Row<u8>, n: i64) -> Result<(), AllocError>
     ensures { OnOk result (out.new ≡ out.old ++ limit_text (sign_of n) (unsigned_abs n)) }
 {
     let mut buffer = Buffer::new();
-    push_all(out, buffer.format(n).as_bytes())
+    out.extend_from_slice(buffer.format(n).as_bytes())
 }
 
 // Writes the sum of the reciprocals of the powers of this order.
@@ -302,7 +301,7 @@ fn write_harmonic(order: u128, variable: u8, out: &mut Row<u8>) -> Result<(), Al
     requires { 0 < order }
     ensures { OnOk result ((bound : ℕ) (from : ℤ) (body : Placed) → out.new ≡ out.old ++ plain (written_sum variable bound from order body)) }
 {
-    push_all(out, b"H(")?;
+    out.extend_from_slice(b"H(")?;
     out.push(variable)?;
     if order > 1 {
         out.push(b',')?;
@@ -319,17 +318,17 @@ fn write_product(from: i64, body: &Expr, scope: Scope, out: &mut Row<u8>) -> Res
     match product_form(from, body) {
         ProductForm::Full => write_call(b"prod", from, body, scope, out),
         ProductForm::Factorial => {
-            push_all(out, b"fact(")?;
+            out.extend_from_slice(b"fact(")?;
             out.push(scope.variable)?;
             out.push(b')')
         }
         ProductForm::Binomial => {
-            push_all(out, b"binom(")?;
+            out.extend_from_slice(b"binom(")?;
             write_left(body, scope.inside(), out)?;
             push_name(scope.variable, out)
         }
         ProductForm::Power => {
-            push_all(out, b"pow(")?;
+            out.extend_from_slice(b"pow(")?;
             write(body, scope.inside(), out)?;
             push_name(scope.variable, out)
         }
@@ -456,5 +455,5 @@ fn write_left(body: &Expr, scope: Scope, out: &mut Row<u8>) -> Result<(), AllocE
 fn push_name(name: u8, out: &mut Row<u8>) -> Result<(), AllocError>
     ensures { OnOk result (out.new ≡ out.old ++ 44 ∷ (name ∷ (41 ∷ []))) }
 {
-    push_all(out, &[b',', name, b')'])
+    out.extend_from_slice(&[b',', name, b')'])
 }

@@ -2,7 +2,6 @@ ghost use Rattle.std.specs.Prelude.{◌≡◌, ◌++◌, IfOk, OnOk};
 ghost use Rattle.sg_num.specs.Value.{fraction};
 ghost use Rattle.sg_text.specs.RationalText.{rational_text};
 
-use crate::bytes::push_all;
 use itoa::Buffer;
 use sg_num::{Rat, Row};
 use std::alloc::{AllocError, Global};
@@ -14,10 +13,10 @@ pub fn print_rat(alloc: Global, r: Rat) -> Result<Row<u8>, AllocError>
 {
     let mut text = Row::new(alloc);
     let mut buffer = Buffer::new();
-    push_all(&mut text, buffer.format(r.num()).as_bytes())?;
+    text.extend_from_slice(buffer.format(r.num()).as_bytes())?;
     if r.den() != 1 {
-        push_all(&mut text, b"/")?;
-        push_all(&mut text, buffer.format(r.den().unsigned_abs()).as_bytes())?;
+        text.extend_from_slice(b"/")?;
+        text.extend_from_slice(buffer.format(r.den().unsigned_abs()).as_bytes())?;
     }
     Ok(text)
 }

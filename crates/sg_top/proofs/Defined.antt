@@ -6,7 +6,7 @@ use Rattle.sg_spec.specs.Tree.{Tree}
 use Rattle.sg_spec.specs.Printing.{InForm}
 use Rattle.sg_spec.specs.Value.{val}
 use Rattle.sg_spec.specs.Faults.{parts_from, AreSpared}
-use Rattle.sg_written.proofs.Worths.{worth_number}
+use Rattle.sg_worth_theory.proofs.Worths.{worth_number}
 use Rattle.sg_value_theory.proofs.NumberParts.{HasNumber}
 use Rattle.sg_limits.proofs.Soundness.{plain_sound}
 

@@ -10,7 +10,7 @@ use Rattle.sg_algebra.specs.Coefficients.{Each}
 use Rattle.sg_expr.specs.Tree.{tree_of}
 use Rattle.sg_expr.specs.declared.tree.Expr.{Expr}
 use Rattle.sg_spec.specs.Tree.{Tree}
-use Rattle.sg_written.proofs.Plain.{HasNoProduct}
+use Rattle.sg_worth_theory.proofs.Plain.{HasNoProduct}
 use Rattle.sg_top.specs.Taking.{Alone, IsFirstLater}
 
 pub lone : (items : List Expr) (e : Expr) → length items ≡ 1 → e ≡ get_or items 0 e → map tree_of items ≡ tree_of e ∷ []

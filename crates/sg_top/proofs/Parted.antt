@@ -14,7 +14,7 @@ use Rattle.sg_spec.specs.Polynomials.{IsPolynomial}
 use Rattle.sg_spec.specs.Printing.{InForm}
 use Rattle.sg_spec.specs.Parts.{Part, Role, anywhere, divides, is_body, parts, own_part}
 use Rattle.sg_spec.specs.Faults.{Numbered, with_item, parts_from, First, AreSpared}
-use Rattle.sg_written.proofs.Plain.{HasNoProduct, none_multiplied}
+use Rattle.sg_worth_theory.proofs.Plain.{HasNoProduct, none_multiplied}
 use Rattle.sg_limits.proofs.Elementary.{each_append}
 use Rattle.sg_top.specs.Taking.{IsRational}
 

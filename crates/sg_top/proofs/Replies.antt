@@ -34,7 +34,7 @@ use Rattle.sg_value.specs.Answer.{IsValue}
 use Rattle.sg_words.specs.declared.asked.Command.TheVariants.{Sum, Value, ValueAtParameter}
 use Rattle.sg_top.specs.Lines.{item_line, closed_line, none_line, letters_at, part_text}
 use Rattle.sg_nested.specs.Commands.{IsFirstClosed, HasNoFirst}
-use Rattle.sg_written.proofs.Plain.{HasNoProduct}
+use Rattle.sg_worth_theory.proofs.Plain.{HasNoProduct}
 use Rattle.sg_top.specs.Stages.{IsTaken}
 use Rattle.sg_top.specs.Refusals.{IsPoleRefusal, IsSpared, HasHeavyPart}
 use Rattle.sg_top.specs.Output.{IsValueOutput, IsNarrow}

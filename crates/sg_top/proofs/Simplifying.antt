@@ -11,7 +11,7 @@ use Rattle.sg_text.specs.PrintedText.{printed}
 use Rattle.sg_words.specs.declared.asked.Command.TheVariants.{Simplify, Check}
 use Rattle.sg_forms.specs.Commands.{IsFirstSimplified, FirstTelescopes, FirstFails}
 use Rattle.sg_top.specs.Lines.{item_line, form_line, yes_line}
-use Rattle.sg_written.proofs.Plain.{HasNoProduct}
+use Rattle.sg_worth_theory.proofs.Plain.{HasNoProduct}
 use Rattle.sg_top.specs.Stages.{IsTaken}
 use Rattle.sg_top.specs.Refusals.{IsSpared, HasHeavyPart}
 use Rattle.sg_top.specs.Answer.{IsCountedReply, IsTakenReply}

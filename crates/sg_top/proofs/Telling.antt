@@ -20,7 +20,7 @@ use Rattle.sg_spec.specs.Limits.{counted}
 use Rattle.sg_spec.specs.Parts.{Part}
 use Rattle.sg_spec.specs.Printing.{InForm}
 use Rattle.sg_spec.specs.Tree.{Tree}
-use Rattle.sg_written.proofs.Plain.{HasNoProduct}
+use Rattle.sg_worth_theory.proofs.Plain.{HasNoProduct}
 use Rattle.sg_words.specs.declared.asked.Command.TheVariants.{Sum, Tower}
 use Rattle.sg_forms_theory.specs.Sums.{AreStandings}
 use Rattle.sg_forms.specs.Commands.{AreTold}

@@ -12,7 +12,7 @@
 use Rattle.std.specs.Prelude.{◌≡◌, ℕ, ◌+◌, nat_le, ℤ, negsuc, Option, Some, None, List, [], ◌∷◌, map, codes, ◌⊎◌}
 use Rattle.sg_spec.specs.Tree.{Tree, numeral, here, param, add, neg, mul, div, power, sum_from, prod_from}
 use Rattle.sg_spec.specs.Reading.{Bounds, IsRead}
-use Rattle.sg_written.proofs.Plain.{HasNoProduct}
+use Rattle.sg_worth_theory.proofs.Plain.{HasNoProduct}
 use Rattle.sg_words.specs.declared.asked.Command.{Command}
 use Rattle.sg_words.specs.declared.asked.Command.TheVariants.{Sum, Tower, Simplify, Check, Value, ValueAtParameter}
 

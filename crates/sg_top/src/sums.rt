@@ -11,7 +11,7 @@ ghost use Rattle.sg_top.specs.Answer.{IsCountedReply, IsTakenReply};
 ghost use Rattle.sg_top.specs.Lines.{closed_line, listed, none_line};
 ghost use Rattle.sg_top.specs.Output.{IsNarrow};
 ghost use Rattle.sg_top.specs.Refusals.{IsSpared};
-ghost use Rattle.sg_written.proofs.Plain.{HasNoProduct};
+ghost use Rattle.sg_worth_theory.proofs.Plain.{HasNoProduct};
 ghost use Rattle.sg_top.specs.Taking.{IsRational, Alone, IsFirstLater, AreAdmitted};
 ghost use Rattle.sg_top.specs.declared.status.Status.TheVariants.{Done, No};
 

@@ -7,7 +7,6 @@ use crate::answer::reply_to;
 use crate::batch::answer_batch;
 use crate::send::deliver;
 use sg_io::{Sink, Source};
-use sg_lines::copied;
 use sg_num::Row;
 use sg_words::is_batch;
 use std::alloc::{AllocError, Global};
@@ -43,7 +42,7 @@ fn byte_words(alloc: Global, words: &[String]) -> Result<Row<Row<u8>>, AllocErro
 {
     let mut list = Row::new(alloc);
     for word in words {
-        list.push(copied(alloc, word.as_bytes())?)?;
+        list.push(Row::from_slice(alloc, word.as_bytes())?)?;
     }
     Ok(list)
 }

@@ -4,7 +4,7 @@
 --   quotient_keeps    no fraction but zero goes to zero
 use Rattle.sg_algebra.specs.Ring.{Domain, Hom}
 use Rattle.sg_algebra.proofs.Quotient.{Quotient, ◌≃◌, QuotientR, whole_quotient, num_zero, zero_num}
-use Rattle.sg_shift.proofs.ShiftValue.{shift_quotient, shift_quotient_cong, shift_quotient-add, shift_quotient-mul, shift_quotient-one}
+use Rattle.sg_algebra.proofs.ShiftValue.{shift_quotient, shift_quotient_cong, shift_quotient-add, shift_quotient-mul, shift_quotient-one}
 
 module _ (D : Domain) (σ : Hom D.R D.R) (keeps : (x : D.R.A) → ¬ (D.R.◌≈◌ x D.R.O) → ¬ (D.R.◌≈◌ (σ.on x) D.R.O)) where
   open D use {R}

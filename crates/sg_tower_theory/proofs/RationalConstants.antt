@@ -23,8 +23,8 @@ use Rattle.sg_algebra.proofs.OverValue.{ne_raws}
 use Rattle.sg_algebra.proofs.Embedding.{constant_value, numeral_ne}
 use Rattle.sg_tower_theory.proofs.Ends.{lowered, below_length}
 use Rattle.sg_tower_theory.proofs.Degrees.{OnlyConstants}
-use Rattle.sg_shift.proofs.ShiftValue.{shift_quotient, shift_quotient_cong}
-use Rattle.sg_shift.proofs.ShiftValue.{moved_ne, shift_value, one_poly_ne}
+use Rattle.sg_algebra.proofs.ShiftValue.{shift_quotient, shift_quotient_cong}
+use Rattle.sg_algebra.proofs.ShiftValue.{moved_ne, shift_value, one_poly_ne}
 use Rattle.sg_tower_theory.proofs.ShiftValue.{rational_functions}
 
 module _ (F : Field) (char : (n : ℕ) → ¬ (F.R.◌≈◌ (nat F.R (suc n)) F.R.O)) where

@@ -2,7 +2,7 @@
 --   rational_functions d    with the constants of depth d
 use Rattle.sg_algebra.proofs.ValueField.{ValueR}
 use Rattle.sg_algebra.proofs.Embedding.{constant_valueH}
-pub use Rattle.sg_shift.proofs.ShiftValue.{moved_ne, shift_value, shift_valueH, shift_value-over, one_poly_ne, shift_value-constant}
+pub use Rattle.sg_algebra.proofs.ShiftValue.{moved_ne, shift_value, shift_valueH, shift_value-over, one_poly_ne, shift_value-constant}
 use Rattle.sg_tower_theory.proofs.Difference.{Difference}
 use Rattle.std.proofs.Common.{ℕ, suc}
 

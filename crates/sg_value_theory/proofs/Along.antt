@@ -15,7 +15,7 @@ use Rattle.sg_spec.specs.Worth.{HasWorth}
 use Rattle.sg_value_theory.proofs.Elements.{Point, HasElement}
 use Rattle.sg_value_theory.proofs.TreePoints.{IsPointOf, Agrees}
 use Rattle.sg_value_theory.proofs.TowerOf.{IsTowerOf, at_places}
-use Rattle.sg_written.proofs.Worths.{worth_unique}
+use Rattle.sg_worth_theory.proofs.Worths.{worth_unique}
 use Rattle.sg_value_theory.proofs.Evaluations.{evaluation, constant-has}
 use Rattle.sg_value_theory.proofs.Regular.{regular_along}
 use Rattle.sg_value_theory.proofs.PointsOf.{HasValues, HasUnits, sum_worth, points, points-late, points-are, next-place, run}

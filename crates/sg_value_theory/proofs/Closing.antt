@@ -16,7 +16,7 @@ use Rattle.sg_value_theory.proofs.TowerOf.{IsTowerOf, at_places}
 use Rattle.sg_value_theory.proofs.Evaluations.{evaluation}
 use Rattle.sg_value_theory.proofs.Moving.{moves}
 use Rattle.sg_value_theory.proofs.Regular.{regular_along}
-use Rattle.sg_written.proofs.Closes.{no_letter}
+use Rattle.sg_worth_theory.proofs.Closes.{no_letter}
 use Rattle.sg_value_theory.proofs.Telescoped.{closed_by}
 use Rattle.sg_value_theory.proofs.PointsOf.{HasValues, HasUnits, points, points-late, points-are, run}
 use Rattle.sg_value_theory.proofs.Alike.{alike}

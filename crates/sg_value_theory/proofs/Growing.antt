@@ -15,8 +15,8 @@ use Rattle.sg_tower_theory.proofs.Formal.{Formal, Element, elements, shifted, on
 use Rattle.sg_spec.specs.Worth.{HasWorth}
 use Rattle.sg_value_theory.proofs.Elements.{Point, HasElement, Follows}
 use Rattle.sg_value_theory.proofs.TreePoints.{Agrees}
-use Rattle.sg_written.proofs.Worths.{worth_unique}
-use Rattle.sg_written.proofs.Closes.{sum_step}
+use Rattle.sg_worth_theory.proofs.Worths.{worth_unique}
+use Rattle.sg_worth_theory.proofs.Closes.{sum_step}
 use Rattle.sg_value_theory.proofs.Evaluations.{evaluation}
 use Rattle.sg_value_theory.proofs.Polynomials.{raised-constant, raised-variable}
 use Rattle.sg_value_theory.proofs.Moving.{moves}

@@ -15,7 +15,7 @@ use Rattle.sg_spec.specs.Tree.{Tree, here}
 use Rattle.sg_spec.specs.Worth.{HasWorth}
 use Rattle.sg_value_theory.proofs.TreePoints.{AreValues}
 use Rattle.sg_value_theory.proofs.TowerOf.{at_places, up_to, Ascending}
-use Rattle.sg_written.proofs.Worths.{worth_unique}
+use Rattle.sg_worth_theory.proofs.Worths.{worth_unique}
 
 pub each-more : {C : Type 0} (P : C → Type 0) (xs : List C) (y : C) → Each P xs → P y → Each P (xs ++ y ∷ [])
 each-more P [] y h p = (p, tt)

@@ -26,8 +26,8 @@ use Rattle.sg_value_theory.proofs.Elements.{Point}
 use Rattle.sg_spec.specs.Worth.{HasWorth}
 use Rattle.sg_value_theory.proofs.TreePoints.{IsPointOf, Agrees}
 use Rattle.sg_value_theory.proofs.TowerOf.{IsTowerOf, IsFormallyNone, at_places, BuiltOver}
-use Rattle.sg_written.proofs.Worths.{worth_number, number_worth}
-use Rattle.sg_written.proofs.Closes.{no_letter}
+use Rattle.sg_worth_theory.proofs.Worths.{worth_number, number_worth}
+use Rattle.sg_worth_theory.proofs.Closes.{no_letter}
 use Rattle.sg_value_theory.proofs.NumberParts.{left_number, right_number, both_parts}
 use Rattle.sg_value_theory.proofs.Divisors.{listed_divisor}
 use Rattle.sg_value_theory.proofs.OverProducts.{AgreesFrom, element_over}

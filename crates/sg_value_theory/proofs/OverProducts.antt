@@ -22,7 +22,7 @@ use Rattle.sg_value_theory.proofs.Quotients.{quotients, quotient-constant}
 use Rattle.sg_spec.specs.Worth.{HasWorth}
 use Rattle.sg_value_theory.proofs.TreePoints.{AreValues, IsPointOf, Agrees}
 use Rattle.sg_value_theory.proofs.TowerOf.{BuiltOver, IsTowerOf, at_places}
-use Rattle.sg_written.proofs.Worths.{worth_unique}
+use Rattle.sg_worth_theory.proofs.Worths.{worth_unique}
 use Rattle.sg_value_theory.proofs.RationalPlaces.{whole_at, variable, variable_at}
 use Rattle.sg_value_theory.proofs.Evaluations.{evaluation, lifted-has}
 use Rattle.sg_value_theory.proofs.Moving.{inverse-has}

@@ -16,8 +16,8 @@ use Rattle.sg_spec.specs.Value.{val, SameValue, total}
 use Rattle.sg_spec.proofs.Values.{val-proper}
 use Rattle.sg_spec.proofs.Worth.{worth_same}
 use Rattle.sg_spec.proofs.Totals.{from_on}
-use Rattle.sg_written.proofs.Worths.{worth_number}
-use Rattle.sg_written.proofs.Closes.{no_letter, total_closes}
+use Rattle.sg_worth_theory.proofs.Worths.{worth_number}
+use Rattle.sg_worth_theory.proofs.Closes.{no_letter, total_closes}
 
 module _ (E : Ring) (shift : E.A → E.A) {d : ℕ} (at : ℕ → Evaluation E d) where
   open E use {A, ◌≈◌, ◌⊞◌, ⊟}

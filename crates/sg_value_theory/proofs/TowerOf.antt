@@ -15,7 +15,7 @@ use Rattle.sg_tower_theory.proofs.Difference.{delta}
 use Rattle.sg_tower_theory.proofs.Nested.{NestedR}
 use Rattle.sg_tower_theory.proofs.Formal.{Formal, Element, elements, shifted, base, IsIndependent, own_sum}
 use Rattle.sg_value_theory.proofs.Elements.{Point, Follows}
-use Rattle.sg_written.proofs.Bodies.{StartsBy, HasBody}
+use Rattle.sg_worth_theory.proofs.Bodies.{StartsBy, HasBody}
 use Rattle.sg_value_theory.proofs.TreePoints.{IsPointOf, Agrees}
 
 abbrev pub BuiltOver : List Tree → List Tree → Tree → Type 0

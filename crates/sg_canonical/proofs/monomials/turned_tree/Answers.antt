@@ -1,4 +1,4 @@
-use Rattle.sg_written.proofs.OneTerm.{plane-opposite}
+use Rattle.sg_worth_theory.proofs.Planes.{plane-opposite}
 use Rattle.std.proofs.Common.{◌≡◌, map, neg_ℤ, rules}
 use Rattle.sg_spec.specs.Canonical.{negated, plane_of}
 use Rattle.sg_canonical.proofs.monomials.turned_tree.Goals as goal

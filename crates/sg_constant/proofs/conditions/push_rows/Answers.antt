@@ -1,5 +1,5 @@
 use Rattle.std.proofs.Common.{◌≤◌, refl, map, length, ap, arith, ◌∙◌}
-use Rattle.sg_first_order.proofs.System.{row_of}
+use Rattle.sg_first_order_theory.proofs.System.{row_of}
 use Rattle.sg_constant.proofs.Conditioned.{conditioning_none, conditioning_more, conditioning_all}
 use Rattle.sg_constant.proofs.conditions.push_rows.Goals as goal
 

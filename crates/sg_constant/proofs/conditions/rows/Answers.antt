@@ -1,5 +1,5 @@
 use Rattle.std.proofs.Common.{subst, sym, arith}
-use Rattle.sg_reduction.proofs.Places.{Fits}
+use Rattle.sg_reduction_theory.proofs.Places.{Fits}
 use Rattle.sg_constant.specs.Shares.{share}
 use Rattle.sg_constant.proofs.Conditioned.{conditions_none, conditions_more, conditions_all, fits_of}
 use Rattle.sg_constant.proofs.conditions.rows.Goals as goal

@@ -1,7 +1,7 @@
 use Rattle.std.proofs.Common.{map, subst}
 use Rattle.sg_algebra.proofs.Polynomial.{poly}
 use Rattle.sg_poly.proofs.Dividers.{monic_some}
-use Rattle.sg_reduction.proofs.Steps.{Adds}
+use Rattle.sg_reduction_theory.proofs.Steps.{Adds}
 use Rattle.sg_constant.specs.Shares.{share, polys, over}
 use Rattle.sg_constant.proofs.Numerators.{joined_of}
 use Rattle.sg_constant.proofs.joining.joined.Goals as goal

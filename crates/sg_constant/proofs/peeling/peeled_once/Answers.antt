@@ -1,6 +1,6 @@
 use Rattle.std.proofs.Common.{map, subst}
 use Rattle.sg_algebra.proofs.Polynomial.{poly}
-use Rattle.sg_reduction.proofs.Places.{fits_some}
+use Rattle.sg_reduction_theory.proofs.Places.{fits_some}
 use Rattle.sg_constant.specs.Shares.{polys, over, share, shares, IsSplit}
 use Rattle.sg_constant.proofs.Settled.{good_first, peels_none, peels_part}
 use Rattle.sg_constant.proofs.Plans.{part_some, parts_apart}

@@ -4,7 +4,7 @@ use Rattle.std.proofs.lemmas.Int.{to_z-of_z}
 use Rattle.sg_algebra.proofs.Polynomial.{Polynomial, poly}
 use Rattle.sg_poly.specs.Divisors.{IsGcd}
 use Rattle.sg_poly.proofs.Dividers.{monic_some}
-use Rattle.sg_first_order.proofs.Next.{moved_polynomial, moved_polynomial-poly}
+use Rattle.sg_first_order_theory.proofs.Next.{moved_polynomial, moved_polynomial-poly}
 use Rattle.sg_constant.proofs.planning.meeting.Goals as goal
 
 pub gcd-requires : goal.gcd-requires

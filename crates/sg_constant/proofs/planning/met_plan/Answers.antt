@@ -2,7 +2,7 @@ use Rattle.std.proofs.Common.{map, rules, FitsSigned, subst, sym}
 use Rattle.std.specs.Int.{w128}
 use Rattle.std.proofs.lemmas.Int.{to_z-of_z}
 use Rattle.sg_algebra.proofs.Polynomial.{poly}
-use Rattle.sg_first_order.proofs.Next.{moved_polynomial}
+use Rattle.sg_first_order_theory.proofs.Next.{moved_polynomial}
 use Rattle.sg_constant.specs.Shares.{lower_at, IsMeeting}
 use Rattle.sg_constant.proofs.Plans.{other_cut, other_joint, lower_get}
 use Rattle.sg_constant.proofs.planning.met_plan.Goals as goal

@@ -1,6 +1,6 @@
 use Rattle.std.proofs.Common.{◌≡◌, ℕ, length, map, subst, sym, ap, ◌∙◌, rules}
 use Rattle.sg_algebra.proofs.Polynomial.{poly, zero_polynomial}
-use Rattle.sg_reduction.proofs.Places.{Fits, Good}
+use Rattle.sg_reduction_theory.proofs.Places.{Fits, Good}
 use Rattle.sg_constant.specs.Shares.{polys, over, shares}
 use Rattle.sg_constant.proofs.Functions.{added_none, added_some, length-alone}
 use Rattle.sg_constant.proofs.reducing.add_fraction.Goals as goal

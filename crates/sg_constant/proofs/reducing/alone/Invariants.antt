@@ -1,6 +1,6 @@
 use Rattle.std.proofs.Common.{◌≡◌, map, take}
 use Rattle.sg_algebra.proofs.Polynomial.{poly}
-use Rattle.sg_reduction.proofs.Conditions.{alone}
+use Rattle.sg_reduction_theory.proofs.Conditions.{alone}
 use Rattle.sg_constant.specs.Shares.{polys}
 use Rattle.sg_constant.proofs.reducing.alone.Given as goal
 

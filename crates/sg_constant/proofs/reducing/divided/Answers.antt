@@ -4,7 +4,7 @@ use Rattle.sg_algebra.proofs.Value.{◌/ᵛ◌}
 use Rattle.sg_algebra.proofs.Polynomial.{poly}
 use Rattle.sg_poly.proofs.Dividers.{monic_some}
 use Rattle.sg_ratfun.specs.Fractions.{ratio}
-use Rattle.sg_first_order.proofs.ValueFractions.{whole}
+use Rattle.sg_first_order_theory.proofs.ValueFractions.{whole}
 use Rattle.sg_constant.proofs.Functions.{over_whole, divided_value, alone_fits}
 use Rattle.sg_constant.proofs.Numerators.{rest_under}
 use Rattle.sg_constant.proofs.Taken.{monic_degree}

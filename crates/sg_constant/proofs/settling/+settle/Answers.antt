@@ -2,7 +2,7 @@ use Rattle.std.proofs.Common.{◌≡◌, ℕ, ◌<◌, [], ◌∷◌, map, refl,
 use Rattle.sg_algebra.proofs.Coprime.{Coprime}
 use Rattle.sg_algebra.proofs.Polynomial.{PolynomialR, poly, zero_polynomial, ◌*ᵖ◌}
 use Rattle.sg_poly.specs.Divisors.{IsMonic}
-use Rattle.sg_reduction.proofs.Places.{fits_some}
+use Rattle.sg_reduction_theory.proofs.Places.{fits_some}
 use Rattle.sg_constant.specs.Shares.{polys, over, share, shares, size, HasLowers, IsCut, IsFree, IsSplit, Settles}
 use Rattle.sg_constant.proofs.Carrying.{shares_push}
 use Rattle.sg_constant.proofs.Settled.{settles_both, settles_add, good_lowers, good_after, good_first}

@@ -2,7 +2,7 @@ use Rattle.std.proofs.Common.{◌∙◌, ◌++◌, ◌∷◌, [], map, rules, Fi
 use Rattle.std.specs.Int.{w128}
 use Rattle.std.proofs.lemmas.Int.{to_z-of_z}
 use Rattle.sg_algebra.proofs.Polynomial.{poly}
-use Rattle.sg_reduction.proofs.Places.{fits_some}
+use Rattle.sg_reduction_theory.proofs.Places.{fits_some}
 use Rattle.sg_constant.specs.Shares.{polys, share, shares, IsJoint, Settles}
 use Rattle.sg_constant.proofs.Carrying.{shares_push}
 use Rattle.sg_constant.proofs.Settled.{settles_join, share_at, share_inside, lower_is, shares_removed, fits_at, number_at, same_number}

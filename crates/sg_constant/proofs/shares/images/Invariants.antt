@@ -1,6 +1,6 @@
 use Rattle.std.proofs.Common.{◌≡◌, map, take}
 use Rattle.sg_algebra.proofs.Polynomial.{constant, ◌*ᵖ◌}
-use Rattle.sg_first_order.proofs.Next.{moved_polynomial}
+use Rattle.sg_first_order_theory.proofs.Next.{moved_polynomial}
 use Rattle.sg_constant.specs.Shares.{polys}
 use Rattle.sg_constant.proofs.shares.images.Given as goal
 

@@ -2,7 +2,7 @@ use Rattle.std.proofs.Common.{map, rules, FitsSigned, ap, sym, ◌∙◌}
 use Rattle.std.specs.Int.{w128}
 use Rattle.std.proofs.lemmas.Int.{to_z-of_z}
 use Rattle.sg_algebra.proofs.Polynomial.{constant, ◌*ᵖ◌}
-use Rattle.sg_first_order.proofs.Next.{moved_polynomial-poly}
+use Rattle.sg_first_order_theory.proofs.Next.{moved_polynomial-poly}
 use Rattle.sg_constant.proofs.shares.shifted.Goals as goal
 
 pub returns-clause-value : goal.returns-clause-value

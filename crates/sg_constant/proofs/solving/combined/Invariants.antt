@@ -1,6 +1,6 @@
 use Rattle.std.proofs.Common.{◌≡◌, map, take}
 use Rattle.sg_algebra.proofs.Polynomial.{poly, coefficient}
-use Rattle.sg_first_order.proofs.Weighted.{weighted}
+use Rattle.sg_first_order_theory.proofs.Weighted.{weighted}
 use Rattle.sg_constant.specs.Shares.{polys}
 use Rattle.sg_constant.proofs.solving.combined.Given as goal
 

@@ -1,7 +1,7 @@
 use Rattle.std.proofs.Common.{◌∷◌, [], refl, map, ap, ◌∙◌}
 use Rattle.sg_algebra.proofs.Value.{one_value, ◌+ᵛ◌}
 use Rattle.sg_algebra.proofs.Polynomial.{poly, coefficient, polynomial_one_ne}
-use Rattle.sg_reduction.proofs.Moves.{sum_at}
+use Rattle.sg_reduction_theory.proofs.Moves.{sum_at}
 use Rattle.sg_constant.specs.Shares.{shares}
 use Rattle.sg_constant.proofs.Functions.{over_whole, whole_over_one}
 use Rattle.sg_constant.proofs.solving.solution.Goals as goal

@@ -1,7 +1,7 @@
 use Rattle.std.proofs.Common.{ℕ, map, length, ap, sym, subst, ◌∙◌, arith}
 use Rattle.sg_algebra.proofs.Polynomial.{coefficient}
 use Rattle.sg_ratfun.specs.Fractions.{ratio}
-use Rattle.sg_reduction.proofs.Spanning.{Sized, Known}
+use Rattle.sg_reduction_theory.proofs.Spanning.{Sized, Known}
 use Rattle.sg_constant.specs.Shares.{polys, shares}
 use Rattle.sg_constant.proofs.Solved.{solutions_none, solutions_more, solutions_all, vector_size}
 use Rattle.sg_constant.proofs.solving.solutions.Goals as goal

@@ -1,9 +1,9 @@
 use Rattle.std.proofs.Common.{◌≡◌, ℕ, [], map, length, get_or, subst, sym, ap, ◌<◌, ◌∙◌}
 use Rattle.sg_algebra.proofs.Lists.{length_map}
 use Rattle.sg_ratfun.specs.Fractions.{ratio}
-use Rattle.sg_reduction.proofs.Bases.{IsNull}
-use Rattle.sg_reduction.proofs.Places.{Good}
-use Rattle.sg_reduction.proofs.Spanning.{Sized}
+use Rattle.sg_reduction_theory.proofs.Bases.{IsNull}
+use Rattle.sg_reduction_theory.proofs.Places.{Good}
+use Rattle.sg_reduction_theory.proofs.Spanning.{Sized}
 use Rattle.sg_constant.specs.Shares.{polys, shares, HasLowers}
 use Rattle.sg_constant.specs.Reductions.{IsReduction, AreSolutions, VanishAt}
 use Rattle.sg_constant.proofs.Solved.{reduction_at, is_basis}

@@ -1,8 +1,8 @@
 use Rattle.std.proofs.Common.{map, length, ap, ap₂, sym, ◌∙◌}
 use Rattle.sg_algebra.proofs.Value.{◌/ᵛ◌}
 use Rattle.sg_algebra.proofs.Polynomial.{coefficient}
-use Rattle.sg_first_order.proofs.ValueFractions.{whole}
-use Rattle.sg_first_order.proofs.Weighted.{weighted}
+use Rattle.sg_first_order_theory.proofs.ValueFractions.{whole}
+use Rattle.sg_first_order_theory.proofs.Weighted.{weighted}
 use Rattle.sg_constant.specs.Shares.{polys}
 use Rattle.sg_constant.proofs.Functions.{over_whole}
 use Rattle.sg_constant.proofs.solving.term.Goals as goal

@@ -2,7 +2,7 @@ use Rattle.std.proofs.Common.{◌≡◌, map, take}
 use Rattle.sg_algebra.proofs.Value.{◌+ᵛ◌}
 use Rattle.sg_algebra.proofs.Polynomial.{coefficient}
 use Rattle.sg_ratfun.specs.Fractions.{ratio}
-use Rattle.sg_reduction.proofs.Moves.{sum_at}
+use Rattle.sg_reduction_theory.proofs.Moves.{sum_at}
 use Rattle.sg_constant.specs.Shares.{shares}
 use Rattle.sg_constant.proofs.solving.with_terms.Given as goal
 

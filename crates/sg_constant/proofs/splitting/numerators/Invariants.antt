@@ -3,8 +3,8 @@ use Rattle.sg_algebra.specs.Coefficients.{Each}
 use Rattle.sg_algebra.proofs.Degree.{Degree}
 use Rattle.sg_algebra.proofs.ValueField.{ValueR}
 use Rattle.sg_algebra.proofs.Polynomial.{poly}
-use Rattle.sg_first_order.proofs.Under.{Under}
-use Rattle.sg_reduction.proofs.Steps.{Adds}
+use Rattle.sg_first_order_theory.proofs.Under.{Under}
+use Rattle.sg_reduction_theory.proofs.Steps.{Adds}
 use Rattle.sg_constant.specs.Shares.{polys}
 use Rattle.sg_constant.proofs.splitting.numerators.Given as goal
 

@@ -1,6 +1,6 @@
 use Rattle.std.proofs.Common.{◌≡◌, map}
 use Rattle.sg_algebra.proofs.Polynomial.{poly, constant, ◌+ᵖ◌, ◌-ᵖ◌, ◌*ᵖ◌}
-use Rattle.sg_first_order.proofs.Next.{next}
+use Rattle.sg_first_order_theory.proofs.Next.{next}
 use Rattle.sg_constant.specs.Shares.{size}
 use Rattle.sg_constant.proofs.summing.summed.Given as goal
 

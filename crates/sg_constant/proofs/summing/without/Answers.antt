@@ -1,7 +1,7 @@
 use Rattle.std.proofs.Common.{◌≡◌, map, pos, ap, sym, ◌∙◌}
 use Rattle.sg_algebra.proofs.Polynomial.{poly, constant, ◌-ᵖ◌, ◌*ᵖ◌}
-use Rattle.sg_first_order.proofs.Next.{next, moved_polynomial-poly}
-use Rattle.sg_reduction.proofs.Images.{moved_one}
+use Rattle.sg_first_order_theory.proofs.Next.{next, moved_polynomial-poly}
+use Rattle.sg_reduction_theory.proofs.Images.{moved_one}
 use Rattle.sg_constant.proofs.summing.without.Goals as goal
 
 pub returns-clause-value : goal.returns-clause-value

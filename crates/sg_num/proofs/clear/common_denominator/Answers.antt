@@ -1,4 +1,4 @@
-use Rattle.std.proofs.Common.{◌≢◌, sym, ◌∙◌, subst, ◌<◌, length, get_or, pos, arith, rules, FitsSigned, to_z, below_more}
+use Rattle.std.proofs.Common.{◌≢◌, sym, ◌∙◌, subst, ◌<◌, length, get_or, ℕ, ℤ, pos, ◌*ℤ◌, ◌≡◌, arith, rules, FitsSigned, to_z, below_more}
 use Rattle.std.specs.Int.{w128}
 use Rattle.std.proofs.lemmas.Int.{to_z-of_z}
 use Rattle.std.proofs.lemmas.List.{get_or_default}
@@ -20,5 +20,7 @@ loop-i-preserved c =
     (λ d. subst (λ (r : Rat). IsMultiple c.in_ok-multiple.multiple (fraction r).den) (item d) c.in_ok-multiple.ensures.multiple) in
     record {
       some = subst (λ n. n ≢ pos 0) same c.in_ok-multiple.ensures.some;
+      least = λ m h. subst (λ n. (k : ℤ) × (m ≡ k *ℤ n)) same (c.in_ok-multiple.ensures.least m (c.loop-i.invariant.least m (λ k below d. h k (omega arith) d))
+          (subst (λ (r : Rat). IsMultiple m (fraction r).den) (sym (item (c.index-list-i.result))) (h c.loop-i.i (omega arith) c.index-list-i.result)));
       each = λ k h d. subst (λ n. IsMultiple n (fraction (get_or list k d)).den) same (each k h d);
     }

@@ -3,7 +3,8 @@ use Rattle.std.specs.Int.{w128}
 use Rattle.std.proofs.lemmas.Int.{to_z-of_z}
 use Rattle.sg_algebra.specs.Fraction.{whole}
 use Rattle.sg_num.specs.Value.{fraction}
-use Rattle.sg_num.proofs.WholeSteps.{raised_multiple, raised_some, raised_whole}
+use Rattle.sg_num.proofs.Numbers.{den-positive}
+use Rattle.sg_num.proofs.WholeSteps.{raised_multiple, raised_some, raised_whole, raised_least}
 use Rattle.sg_num.proofs.clear.raised.Goals as goal
 
 pub returns : goal.returns
@@ -21,5 +22,6 @@ returns c =
       some = raised_some c.args.l n c.in_ok-quotient.quotient is c.requires;
       whole = raised_whole c.args.l n c.in_ok-quotient.quotient is;
       multiple = raised_multiple c.args.l n (unsigned_abs c.args.r.den) c.whole.result c.whole-2.result c.in_ok-quotient.quotient x y c.in_ok-quotient.ensures.value is;
+      least = λ m. raised_least c.args.l n m (unsigned_abs c.args.r.den) c.whole.result c.whole-2.result c.in_ok-quotient.quotient (den-positive c.args.r) x y c.in_ok-quotient.ensures.value is;
       wide = tt;
     }

@@ -6,7 +6,7 @@ use Rattle.std.proofs.lemmas.Int.{to_z-of_z}
 use Rattle.std.specs.Int.{w128, w64}
 use Rattle.sg_expr.specs.Tree.{tree_of}
 use Rattle.sg_algebra.proofs.Rational.{whole_value}
-use Rattle.sg_spec.specs.Polynomials.{canonical}
+use Rattle.sg_polysum.specs.Plain.{canonical}
 use Rattle.sg_polysum.specs.Evaluation.{value_at}
 use Rattle.sg_polysum.proofs.Closing.{closed-canonical, form-is}
 use Rattle.sg_polysum.proofs.closed.summed_by_telescoping.Goals as goal

@@ -1,9 +1,9 @@
 use Rattle.std.proofs.Common.{◌∙◌, map, ap, ap₂, sym}
 use Rattle.sg_algebra.proofs.Value.{◌/ᵛ◌}
 use Rattle.sg_algebra.proofs.Polynomial.{poly}
-use Rattle.sg_first_order.specs.Solutions.{pair}
-use Rattle.sg_first_order.proofs.ValueFractions.{whole}
-use Rattle.sg_first_order.proofs.Bounded.{over_whole}
+use Rattle.sg_first_order_theory.specs.Solutions.{pair}
+use Rattle.sg_first_order_theory.proofs.ValueFractions.{whole}
+use Rattle.sg_first_order_theory.proofs.Bounded.{over_whole}
 use Rattle.sg_rational.proofs.ansatz.solution.Goals as goal
 
 pub new-requires : goal.new-requires

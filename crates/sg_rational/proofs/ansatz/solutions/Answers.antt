@@ -2,7 +2,7 @@ use Rattle.std.proofs.Common.{◌≤◌, ◌<◌, ◌∙◌, List, [], length, a
 use Rattle.std.proofs.lemmas.List.{take_all}
 use Rattle.sg_algebra.proofs.Tables.{row_read}
 use Rattle.sg_poly.specs.Polynomials.{polynomial}
-use Rattle.sg_first_order.proofs.Basis.{pair_of}
+use Rattle.sg_first_order_theory.proofs.Basis.{pair_of}
 use Rattle.sg_rational.proofs.Columns.{images_more}
 use Rattle.sg_rational.proofs.ansatz.solutions.Goals as goal
 

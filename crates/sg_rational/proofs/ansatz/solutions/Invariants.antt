@@ -1,8 +1,8 @@
 use Rattle.std.proofs.Common.{◌≡◌, map, take}
 use Rattle.sg_poly.specs.Polynomials.{polynomial}
 use Rattle.sg_ratfun.specs.Fractions.{ratio}
-use Rattle.sg_first_order.specs.Solutions.{pair}
-use Rattle.sg_first_order.proofs.Basis.{pair_of}
+use Rattle.sg_first_order_theory.specs.Solutions.{pair}
+use Rattle.sg_first_order_theory.proofs.Basis.{pair_of}
 use Rattle.sg_rational.proofs.ansatz.solutions.Given as goal
 
 abbrev pub invariant-loop-i : goal.invariant-loop-i

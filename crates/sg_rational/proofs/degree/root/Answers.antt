@@ -1,8 +1,8 @@
 use Rattle.std.proofs.Common.{◌≡◌, ◌∙◌, ap, ap₂, map}
 use Rattle.sg_algebra.proofs.Value.{zero_value, ◌-ᵛ◌, ◌/ᵛ◌}
 use Rattle.sg_algebra.proofs.ValueField.{ValueR}
-use Rattle.sg_first_order.proofs.Bounds.{indicial}
-use Rattle.sg_first_order.proofs.Naturals.{root_is}
+use Rattle.sg_first_order_theory.proofs.Bounds.{indicial}
+use Rattle.sg_first_order_theory.proofs.Naturals.{root_is}
 use Rattle.sg_rational.proofs.Degrees.{root_some, root_none}
 use Rattle.sg_rational.proofs.degree.root.Goals as goal
 

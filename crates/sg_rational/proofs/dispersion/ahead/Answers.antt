@@ -5,7 +5,7 @@ use Rattle.sg_algebra.proofs.Rational.{whole_value}
 use Rattle.sg_algebra.proofs.Shift.{moved}
 use Rattle.sg_algebra.proofs.ValueField.{ValueR}
 use Rattle.sg_algebra.proofs.Polynomial.{poly}
-use Rattle.sg_first_order.proofs.Next.{moved-iter_next}
+use Rattle.sg_first_order_theory.proofs.Next.{moved-iter_next}
 use Rattle.sg_rational.proofs.dispersion.ahead.Goals as goal
 
 pub returns-clause-value : goal.returns-clause-value

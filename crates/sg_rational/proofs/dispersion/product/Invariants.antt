@@ -1,8 +1,8 @@
 use Rattle.std.proofs.Common.{◌≡◌, ◌-◌, ◌<◌, ◌≤◌}
 use Rattle.sg_algebra.proofs.Polynomial.{PolynomialD}
 use Rattle.sg_poly.specs.Polynomials.{polynomial}
-use Rattle.sg_first_order.proofs.Next.{next, nextH}
-use Rattle.sg_first_order.proofs.Reduction.{images}
+use Rattle.sg_first_order_theory.proofs.Next.{next, nextH}
+use Rattle.sg_first_order_theory.proofs.Reduction.{images}
 use Rattle.sg_rational.proofs.dispersion.product.Given as goal
 
 abbrev pub invariant-loop-i : goal.invariant-loop-i

@@ -1,8 +1,8 @@
 use Rattle.std.proofs.Common.{◌∙◌, ap, map, List, ◌++◌}
 use Rattle.sg_algebra.proofs.Polynomial.{Polynomial, neg_polynomial}
 use Rattle.sg_poly.specs.Polynomials.{polynomial}
-use Rattle.sg_first_order.proofs.FirstOrder.{left}
-use Rattle.sg_first_order.proofs.Under.{powers}
+use Rattle.sg_first_order_theory.proofs.FirstOrder.{left}
+use Rattle.sg_first_order_theory.proofs.Under.{powers}
 use Rattle.sg_rational.proofs.system.columns.Goals as goal
 
 pub returns-clause-value : goal.returns-clause-value

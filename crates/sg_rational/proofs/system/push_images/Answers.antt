@@ -2,9 +2,9 @@ use Rattle.std.proofs.Common.{◌≡◌, ◌∙◌, ap, sym, map, List, ◌++◌
 use Rattle.std.proofs.lemmas.List.{append-nil}
 use Rattle.sg_algebra.proofs.Polynomial.{Polynomial}
 use Rattle.sg_poly.specs.Polynomials.{polynomial}
-use Rattle.sg_first_order.proofs.Next.{next-one}
-use Rattle.sg_first_order.proofs.FirstOrder.{left}
-use Rattle.sg_first_order.proofs.Under.{powers}
+use Rattle.sg_first_order_theory.proofs.Next.{next-one}
+use Rattle.sg_first_order_theory.proofs.FirstOrder.{left}
+use Rattle.sg_first_order_theory.proofs.Under.{powers}
 use Rattle.sg_rational.proofs.Columns.{powers_more, power_more, next_variable, next_more}
 use Rattle.sg_rational.proofs.system.push_images.Goals as goal
 

@@ -1,8 +1,8 @@
 use Rattle.std.proofs.Common.{◌≡◌, ◌++◌, map}
 use Rattle.sg_poly.specs.Polynomials.{polynomial}
-use Rattle.sg_first_order.proofs.Next.{next}
-use Rattle.sg_first_order.proofs.FirstOrder.{left}
-use Rattle.sg_first_order.proofs.Under.{powers, monomial}
+use Rattle.sg_first_order_theory.proofs.Next.{next}
+use Rattle.sg_first_order_theory.proofs.FirstOrder.{left}
+use Rattle.sg_first_order_theory.proofs.Under.{powers, monomial}
 use Rattle.sg_rational.proofs.system.push_images.Given as goal
 
 abbrev pub invariant-loop-degree : goal.invariant-loop-degree

@@ -1,5 +1,5 @@
 use Rattle.std.proofs.Common.{◌≡◌, map, take}
-use Rattle.sg_first_order.proofs.System.{row_of}
+use Rattle.sg_first_order_theory.proofs.System.{row_of}
 use Rattle.sg_rational.proofs.system.row_at.Given as goal
 
 abbrev pub invariant-loop-i : goal.invariant-loop-i

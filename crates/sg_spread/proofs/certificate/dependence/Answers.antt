@@ -3,7 +3,7 @@ use Rattle.sg_algebra.proofs.ValueField.{ValueR}
 use Rattle.sg_algebra.proofs.Tables.{row_read}
 use Rattle.sg_num.specs.Value.{number}
 use Rattle.sg_num.specs.declared.rat.Rat.{Rat}
-use Rattle.sg_theory.proofs.Certificate.{Certificate}
+use Rattle.sg_dispersion_theory.proofs.Certificate.{Certificate}
 use Rattle.sg_spread.specs.Powers.{IsSome}
 use Rattle.sg_spread.proofs.Powers.{null_some, null_is, null_none, product_some}
 use Rattle.sg_spread.proofs.certificate.dependence.Goals as goal

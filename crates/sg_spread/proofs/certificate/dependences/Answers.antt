@@ -2,7 +2,7 @@ use Rattle.std.proofs.Common.{◌*◌, ◌-◌, ◌<◌, ℕ, [], map, length, g
 use Rattle.sg_algebra.proofs.Rows.{Builds}
 use Rattle.sg_algebra.proofs.Polynomial.{coefficient}
 use Rattle.sg_num.specs.Value.{number}
-use Rattle.sg_theory.proofs.ValueRows.{table_of_arrays}
+use Rattle.sg_dispersion_theory.proofs.ValueRows.{table_of_arrays}
 use Rattle.sg_spread.proofs.certificate.dependences.Goals as goal
 
 pub returns-clause-basis : goal.returns-clause-basis

@@ -1,8 +1,8 @@
 use Rattle.std.proofs.Common.{◌-◌, map, length, drop}
 use Rattle.sg_algebra.proofs.ValueField.{ValueR}
 use Rattle.sg_num.specs.Value.{number}
-use Rattle.sg_theory.proofs.Horner.{powers}
-use Rattle.sg_theory.proofs.StepRow.{Stands}
+use Rattle.sg_dispersion_theory.proofs.Horner.{powers}
+use Rattle.sg_dispersion_theory.proofs.StepRow.{Stands}
 use Rattle.sg_spread.proofs.horner.vanishes.Given as goal
 
 -- after t turns the row stands for the last t coefficients

@@ -3,7 +3,7 @@ use Rattle.sg_algebra.proofs.Value.{◌+ᵛ◌, ◌*ᵛ◌, neg_value}
 use Rattle.sg_algebra.proofs.ValueField.{ValueR}
 use Rattle.sg_algebra.proofs.Polynomial.{coefficient}
 use Rattle.sg_num.specs.Value.{number}
-use Rattle.sg_theory.proofs.StepRow.{Parts, step_at_by}
+use Rattle.sg_dispersion_theory.proofs.StepRow.{Parts, step_at_by}
 use Rattle.sg_spread.proofs.Rows.{last_line}
 use Rattle.sg_spread.proofs.step.item_after.Goals as goal
 

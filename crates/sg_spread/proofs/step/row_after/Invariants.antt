@@ -2,7 +2,7 @@ use Rattle.std.proofs.Common.{◌-◌, map, length}
 use Rattle.sg_algebra.proofs.Rows.{Builds}
 use Rattle.sg_algebra.proofs.ValueField.{ValueR}
 use Rattle.sg_num.specs.Value.{number}
-use Rattle.sg_theory.proofs.StepRow.{step_at}
+use Rattle.sg_dispersion_theory.proofs.StepRow.{step_at}
 use Rattle.sg_spread.proofs.step.row_after.Given as goal
 
 abbrev pub invariant-loop-p : goal.invariant-loop-p

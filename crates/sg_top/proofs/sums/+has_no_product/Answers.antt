@@ -1,6 +1,6 @@
 use Rattle.std.proofs.Common.{sym, ◌∙◌, inl, inr}
 use Rattle.sg_expr.specs.Tree.{tree_of}
-use Rattle.sg_written.proofs.Plain.{HasNoProduct}
+use Rattle.sg_worth_theory.proofs.Plain.{HasNoProduct}
 use Rattle.sg_top.proofs.Parted.{not_true, left_plain}
 use Rattle.sg_top.proofs.sums.+has_no_product.Goals as goal
 

@@ -1,6 +1,6 @@
 use Rattle.std.proofs.Common.{rules}
 use Rattle.sg_expr.specs.Tree.{tree_of}
-use Rattle.sg_written.proofs.Plain.{HasNoProduct}
+use Rattle.sg_worth_theory.proofs.Plain.{HasNoProduct}
 use Rattle.sg_top.proofs.Items.{later-found}
 use Rattle.sg_top.proofs.sums.first_later.Goals as goal
 

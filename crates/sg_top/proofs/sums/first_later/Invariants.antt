@@ -1,7 +1,7 @@
 use Rattle.std.proofs.Common.{map, take}
 use Rattle.sg_algebra.specs.Coefficients.{Each}
 use Rattle.sg_expr.specs.Tree.{tree_of}
-use Rattle.sg_written.proofs.Plain.{HasNoProduct}
+use Rattle.sg_worth_theory.proofs.Plain.{HasNoProduct}
 use Rattle.sg_top.proofs.sums.first_later.Given as goal
 
 abbrev pub invariant-loop-i : goal.invariant-loop-i

@@ -2,7 +2,7 @@ use Rattle.std.proofs.Common.{FitsSigned, [], ◌∷◌, inl}
 use Rattle.std.specs.Int.{w64}
 use Rattle.std.proofs.lemmas.Int.{to_z-of_z}
 use Rattle.sg_expr.specs.Tree.{tree_of}
-use Rattle.sg_written.proofs.PlainCanonical.{canonical-over}
+use Rattle.sg_polysum.proofs.PlainCanonical.{canonical-over}
 use Rattle.sg_top.proofs.Parted.{polynomial_rational, polynomial_spared}
 use Rattle.sg_top.proofs.Replies.{closed-reply, wide-reply}
 use Rattle.sg_top.proofs.sums.polynomial_reply.Goals as goal

@@ -3,7 +3,7 @@ use Rattle.std.proofs.lemmas.Int.{to_z-of_z}
 use Rattle.std.specs.Int.{w128, w64}
 use mir.Val.{to_z, of_z}
 use Rattle.sg_expr.specs.Tree.{tree_of}
-use Rattle.sg_spec.specs.Polynomials.{canonical}
+use Rattle.sg_polysum.specs.Plain.{canonical}
 use Rattle.sg_polysum.proofs.LinearSums.{summed-even, summed-odd}
 use Rattle.sg_polysum.proofs.linear.Linear.closed.Goals as goal
 

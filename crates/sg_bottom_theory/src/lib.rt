@@ -1,2 +1,0 @@
-//! From the solutions of first-order equations to those of equations between Laurent polynomials. It has no code.
-#![tactic(auto)]

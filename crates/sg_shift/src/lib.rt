@@ -1,2 +1,0 @@
-//! The shift of rational functions. It has no code.
-#![tactic(auto)]

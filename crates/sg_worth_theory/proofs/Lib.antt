@@ -1,0 +1,9 @@
+pub mod Worths
+pub mod Bodies
+pub mod Plain
+pub mod Closes
+pub mod WrittenTerms
+pub mod WrittenElements
+pub mod Building
+pub mod Planes
+pub mod CanonicalExamples

@@ -21,7 +21,12 @@ pub fn unit_row<F: Field>(alloc: Global, n: usize, i: usize) -> Result<Row<F>, S
 }
 
 /// The constants x + c y, place by place; past its end a list has 0.
-pub fn plus_constants<F: Field>(alloc: Global, x: &Row<F>, c: &F, y: &Row<F>) -> Result<Row<F>, Stop>
+pub fn plus_constants<F: Field>(
+    alloc: Global,
+    x: &Row<F>,
+    c: &F,
+    y: &Row<F>,
+) -> Result<Row<F>, Stop>
     ensures value { IfOk result (ConstantsPlus F.val x.now (F.val c.now) y.now) }
     ensures wide { IfErr result KeepsWideStep }
 {

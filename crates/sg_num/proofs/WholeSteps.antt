@@ -137,7 +137,7 @@ raised_least l n m d x y t some e f h s k j =
     let q = (fraction t).den in
     let same = both_ways k.0 l t.num (pos q) j.0 (pos d) m (crossed t.num l (pos q) d g) k.1 j.1 in
     let apart : Coprime ℤR (pos q) t.num = coprime_symm ℤR t.num (pos q) (coprime_size t.num q t.lowest) in
-    let factor = gauss ℤR (pos q) t.num k.0 apart (record { cofactor = j.0; is = ℤD.cancel_mul (positive_ne d some) same }) in
+    let factor = gauss ℤR (pos q) t.num k.0 apart (record { cofactor = j.0; is = ℤD.cancel_mul (positive_ne (pos d) (omega (arith, ints, some))) same }) in
     (factor.cofactor, through m k.0 l factor.cofactor (pos q) n k.1 factor.is s)
 
 twice : (n l d h m : ℤ) → n ≡ h *ℤ l → l ≡ m *ℤ d → n ≡ (h *ℤ m) *ℤ d

@@ -1,12 +1,19 @@
 use Rattle.std.proofs.Common.{◌≢◌, sym, ◌∙◌, subst, ◌<◌, length, get_or, ℕ, ℤ, pos, ◌*ℤ◌, ◌≡◌, arith, rules, FitsSigned, to_z, below_more}
 use Rattle.std.specs.Int.{w128}
-use Rattle.std.proofs.lemmas.Int.{to_z-of_z}
+use Rattle.std.proofs.lemmas.Int.{ints, to_z-of_z}
 use Rattle.std.proofs.lemmas.List.{get_or_default}
 use Rattle.sg_num.specs.Value.{fraction}
 use Rattle.sg_num.specs.declared.rat.Rat.{Rat}
 use Rattle.sg_num.specs.Roots.{IsMultiple}
 use Rattle.sg_num.proofs.WholeSteps.{multiple_more}
 use Rattle.sg_num.proofs.clear.common_denominator.Goals as goal
+
+pub loop-i-init : goal.loop-i-init
+loop-i-init c = record {
+  some = λ e. omega (arith, ints, e);
+  least = λ m h. (m, omega (arith, ints));
+  each = λ k h d. absurd (omega arith);
+}
 
 pub loop-i-preserved : goal.loop-i-preserved
 loop-i-preserved c =

@@ -77,7 +77,7 @@ fn term_value<K: Field>(
     ensures wide { IfErr result KeepsWideStep }
 {
     // the clause of this call says that the coefficient is in lowest terms
-    let _lower = t.coeff.den(alloc)?;
+    let _size = t.coeff.den_len();
     let c = t.coeff.value(alloc, place)?;
     let u = powers(alloc, gens, t.exps.as_slice())?;
     let r = product(alloc, c, u)?;

@@ -72,27 +72,20 @@ impl<F: Field> Poly<F> {
     }
 }
 
-// The coefficient at `k` of `a` and then `rest`.
-fn behind<'a, F: Field>(a: &'a F, rest: &'a [F], k: usize) -> &'a F
-    requires { k ≤ length rest.now }
-    ensures { F.val result.now ≡ coefficient (F.val a.now ∷ map F.val rest.now) k }
-{
-    if k == 0 { a } else { &rest[k - 1] }
-}
-
-// `a` and then `rest`, less `t` times `w`, below the last coefficient of `w`.
-fn reduced<F: Field>(alloc: Global, a: &F, rest: &[F], t: &F, w: &[F]) -> Result<Row<F>, Stop>
-    requires { length w.now ≡ suc (length rest.now) }
-    ensures size { IfOk result (λ r. length r ≡ length rest.now) }
-    ensures value { IfOk result (IsStep F.val a.now rest.now t.now w.now) }
+// The division of rows.
+fn divided<F: Field>(alloc: Global, p: &[F], w: &[F]) -> Result<Parts<F>, Stop>
+    requires ends { EndsNonzero (map F.val w.now) }
+    requires some { 0 < length w.now }
+    ensures value { IfOk result (λ r. IsQuotient F.val p.now w.now r.quotient r.rest) }
+    ensures size { IfOk result (λ r. length r.rest < length w.now) }
     ensures wide { IfErr result KeepsWideStep }
 {
-    let mut row = Row::new(alloc);
-    for i in 0..rest.len() {
-        let c = behind(a, rest, i).sub(alloc, &t.mul(alloc, &w[i])?)?;
-        row.push(c)?;
+    if p.len() < w.len() {
+        let rest = copies_of(alloc, p)?;
+        let quotient = Row::new(alloc);
+        return Ok(Parts { quotient, rest });
     }
-    Ok(row)
+    divided_long(alloc, p, w)
 }
 
 // A quotient and a rest.
@@ -127,20 +120,27 @@ fn divided_long<F: Field>(alloc: Global, p: &[F], w: &[F]) -> Result<Parts<F>, S
     Ok(Parts { quotient, rest })
 }
 
-// The division of rows.
-fn divided<F: Field>(alloc: Global, p: &[F], w: &[F]) -> Result<Parts<F>, Stop>
-    requires ends { EndsNonzero (map F.val w.now) }
-    requires some { 0 < length w.now }
-    ensures value { IfOk result (λ r. IsQuotient F.val p.now w.now r.quotient r.rest) }
-    ensures size { IfOk result (λ r. length r.rest < length w.now) }
+// `a` and then `rest`, less `t` times `w`, below the last coefficient of `w`.
+fn reduced<F: Field>(alloc: Global, a: &F, rest: &[F], t: &F, w: &[F]) -> Result<Row<F>, Stop>
+    requires { length w.now ≡ suc (length rest.now) }
+    ensures size { IfOk result (λ r. length r ≡ length rest.now) }
+    ensures value { IfOk result (IsStep F.val a.now rest.now t.now w.now) }
     ensures wide { IfErr result KeepsWideStep }
 {
-    if p.len() < w.len() {
-        let rest = copies_of(alloc, p)?;
-        let quotient = Row::new(alloc);
-        return Ok(Parts { quotient, rest });
+    let mut row = Row::new(alloc);
+    for i in 0..rest.len() {
+        let c = behind(a, rest, i).sub(alloc, &t.mul(alloc, &w[i])?)?;
+        row.push(c)?;
     }
-    divided_long(alloc, p, w)
+    Ok(row)
+}
+
+// The coefficient at `k` of `a` and then `rest`.
+fn behind<'a, F: Field>(a: &'a F, rest: &'a [F], k: usize) -> &'a F
+    requires { k ≤ length rest.now }
+    ensures { F.val result.now ≡ coefficient (F.val a.now ∷ map F.val rest.now) k }
+{
+    if k == 0 { a } else { &rest[k - 1] }
 }
 
 // The polynomial over its last coefficient.
@@ -158,16 +158,6 @@ fn over_last<F: Field>(alloc: Global, p: &Poly<F>) -> Result<Poly<F>, Stop>
     Ok(r)
 }
 
-// A coefficient of a + (k + m) r.
-fn raised_at<F: Field>(alloc: Global, a: &F, m: &F, r: &[F], i: usize) -> Result<F, Stop>
-    requires { i < length r.now }
-    ensures value { IfOk result (λ x. F.val x ≡ coefficient (F.val a.now ∷ map F.val r.now) i +ᵛ F.val m.now *ᵛ coefficient (map F.val r.now) i) }
-    ensures wide { IfErr result KeepsWideStep }
-{
-    let x = behind(a, r, i).add(alloc, &m.mul(alloc, &r[i])?)?;
-    Ok(x)
-}
-
 // The row a + (k + m) r.
 fn raised<F: Field>(alloc: Global, a: &F, m: &F, r: &[F]) -> Result<Row<F>, Stop>
     ensures value { IfOk result (λ s. polynomial F.val s ≡ constant (F.val a.now) +ᵖ poly (F.val m.now ∷ one_value ∷ []) *ᵖ polynomial F.val r.now) }
@@ -179,4 +169,14 @@ fn raised<F: Field>(alloc: Global, a: &F, m: &F, r: &[F]) -> Result<Row<F>, Stop
     }
     row.push(behind(a, r, r.len()).copy(alloc)?)?;
     Ok(row)
+}
+
+// A coefficient of a + (k + m) r.
+fn raised_at<F: Field>(alloc: Global, a: &F, m: &F, r: &[F], i: usize) -> Result<F, Stop>
+    requires { i < length r.now }
+    ensures value { IfOk result (λ x. F.val x ≡ coefficient (F.val a.now ∷ map F.val r.now) i +ᵛ F.val m.now *ᵛ coefficient (map F.val r.now) i) }
+    ensures wide { IfErr result KeepsWideStep }
+{
+    let x = behind(a, r, i).add(alloc, &m.mul(alloc, &r[i])?)?;
+    Ok(x)
 }

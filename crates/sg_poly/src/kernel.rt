@@ -61,18 +61,6 @@ pub(crate) fn difference_at<F: Field>(alloc: Global, p: &[F], q: &[F], i: usize)
     Ok(r)
 }
 
-// `sum` and one product more, `a` times the coefficient at `k`.
-fn product_added<F: Field>(alloc: Global, a: &F, q: &[F], k: usize, sum: F) -> Result<F, Stop>
-    ensures value { IfOk result (λ r. F.val r ≡ F.val a.now *ᵛ coefficient (map F.val q.now) k +ᵛ F.val sum) }
-    ensures wide { IfErr result KeepsWideStep }
-{
-    if k >= q.len() {
-        return Ok(sum);
-    }
-    let r = a.mul(alloc, &q[k])?.add(alloc, &sum)?;
-    Ok(r)
-}
-
 // The coefficient of the product at `n`.
 pub(crate) fn product_at<F: Field>(alloc: Global, p: &[F], q: &[F], n: usize) -> Result<F, Stop>
     requires { n < length p.now + length q.now }
@@ -86,6 +74,18 @@ pub(crate) fn product_at<F: Field>(alloc: Global, p: &[F], q: &[F], n: usize) ->
         sum = product_added(alloc, &p[j], q, n - j, sum)?;
     }
     Ok(sum)
+}
+
+// `sum` and one product more, `a` times the coefficient at `k`.
+fn product_added<F: Field>(alloc: Global, a: &F, q: &[F], k: usize, sum: F) -> Result<F, Stop>
+    ensures value { IfOk result (λ r. F.val r ≡ F.val a.now *ᵛ coefficient (map F.val q.now) k +ᵛ F.val sum) }
+    ensures wide { IfErr result KeepsWideStep }
+{
+    if k >= q.len() {
+        return Ok(sum);
+    }
+    let r = a.mul(alloc, &q[k])?.add(alloc, &sum)?;
+    Ok(r)
 }
 
 // Whether the two rows, of one length, have equal coefficients.

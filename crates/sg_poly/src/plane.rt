@@ -68,6 +68,18 @@ impl Poly2 {
     }
 }
 
+// The rows, each without the zeros at its end.
+fn fronts(alloc: Global, rows: &[Row<i128>]) -> Result<Row<Row<i128>>, Stop>
+    ensures value { IfOk result (λ new. Each (λ j r. IsFront (get_or rows.now j []) r) (length rows.now) new) }
+    ensures memory { IfErr result IsMemory }
+{
+    let mut new = Row::new(alloc);
+    for i in 0..rows.len() {
+        new.push(trimmed(alloc, rows[i].as_slice())?)?;
+    }
+    Ok(new)
+}
+
 // The row without the zeros at its end.
 fn trimmed(alloc: Global, list: &[i128]) -> Result<Row<i128>, Stop>
     ensures value { IfOk result (IsFront list.now) }
@@ -75,31 +87,6 @@ fn trimmed(alloc: Global, list: &[i128]) -> Result<Row<i128>, Stop>
 {
     let row = Row::from_slice(alloc, &list[..length_of(list)])?;
     Ok(row)
-}
-
-// One step of Horner's rule.
-fn stepped(c: Rat, x: Rat, value: Rat) -> Result<Rat, Wide>
-    ensures value { IfOk result (λ r. number r ≡ number c +ᵛ number x *ᵛ number value) }
-    ensures wide { IfErr result IsTooWide }
-{
-    let product = x.times(value)?;
-    let r = c.plus(product)?;
-    Ok(r)
-}
-
-// The value of the row at `x`, by Horner's rule.
-fn row_value(list: &[i128], x: Rat) -> Result<Rat, Wide>
-    ensures value { IfOk result (λ r. number r ≡ row_at list.now (number x)) }
-    ensures wide { IfErr result IsTooWide }
-{
-    let mut value = Rat::whole(0);
-    let mut i = list.len();
-    while i > 0 {
-        i -= 1;
-        let c = Rat::whole(list[i]);
-        value = stepped(c, x, value)?;
-    }
-    Ok(value)
 }
 
 // How many rows there are up to the last that isn't empty.
@@ -119,14 +106,27 @@ fn height_of(rows: &[Row<i128>]) -> usize
     0
 }
 
-// The rows, each without the zeros at its end.
-fn fronts(alloc: Global, rows: &[Row<i128>]) -> Result<Row<Row<i128>>, Stop>
-    ensures value { IfOk result (λ new. Each (λ j r. IsFront (get_or rows.now j []) r) (length rows.now) new) }
-    ensures memory { IfErr result IsMemory }
+// The value of the row at `x`, by Horner's rule.
+fn row_value(list: &[i128], x: Rat) -> Result<Rat, Wide>
+    ensures value { IfOk result (λ r. number r ≡ row_at list.now (number x)) }
+    ensures wide { IfErr result IsTooWide }
 {
-    let mut new = Row::new(alloc);
-    for i in 0..rows.len() {
-        new.push(trimmed(alloc, rows[i].as_slice())?)?;
+    let mut value = Rat::whole(0);
+    let mut i = list.len();
+    while i > 0 {
+        i -= 1;
+        let c = Rat::whole(list[i]);
+        value = stepped(c, x, value)?;
     }
-    Ok(new)
+    Ok(value)
+}
+
+// One step of Horner's rule.
+fn stepped(c: Rat, x: Rat, value: Rat) -> Result<Rat, Wide>
+    ensures value { IfOk result (λ r. number r ≡ number c +ᵛ number x *ᵛ number value) }
+    ensures wide { IfErr result IsTooWide }
+{
+    let product = x.times(value)?;
+    let r = c.plus(product)?;
+    Ok(r)
 }

@@ -37,7 +37,7 @@ fn flat_term<F: Field>(alloc: Global, t: &Term<RatFun<F>>) -> Result<FlatTerm<F>
 {
     let coeff = t.coeff.copy(alloc)?;
     // the clause of this call says that the coefficient is in lowest terms
-    let _lower = coeff.den(alloc)?;
+    let _size = coeff.den_len();
     let exps = listed(alloc, t.exps.as_slice())?;
     Ok(FlatTerm { exps, coeff })
 }

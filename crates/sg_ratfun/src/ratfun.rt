@@ -1,4 +1,4 @@
-ghost use Rattle.std.specs.Prelude.{◌≡◌, [], ◌∷◌, map, IfOk, IfErr, IfSome, IfNone, ℤ};
+ghost use Rattle.std.specs.Prelude.{◌≡◌, [], ◌∷◌, length, map, IfOk, IfErr, IfSome, IfNone, ℤ};
 ghost use Rattle.sg_algebra.proofs.Value.{Value, over_value, zero_value, one_value};
 ghost use Rattle.sg_algebra.proofs.Embedding.{constant_value};
 ghost use Rattle.sg_algebra.proofs.Rational.{whole_value};
@@ -132,6 +132,14 @@ impl<F: Field> RatFun<F> {
     {
         let p = self.lower().copy(alloc)?;
         Ok(p)
+    }
+
+    /// How many coefficients the denominator has: its degree, and one more. It takes no memory.
+    pub fn den_len(&self) -> usize
+        ensures value { result ≡ length self.now.1 }
+        ensures reduced { IsReduced (map F.val self.now.0) (map F.val self.now.1) }
+    {
+        self.lower().coeffs().len()
     }
 
     /// The value at `x`; None exactly where the denominator is 0 there.

@@ -8,8 +8,11 @@ mod growing;
 mod jobs;
 mod levels;
 mod next;
+mod rests;
+mod towers;
 
 pub use depth::with_tower;
 pub use fate::Fate;
 pub use jobs::Job;
-pub use levels::{plus_constant, start_of_element, start_values};
+pub use levels::{free_sums, plus_constant, start_of_element, start_values};
+pub use towers::{Build, Built};

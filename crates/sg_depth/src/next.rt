@@ -1,17 +1,17 @@
-ghost use Rattle.std.specs.Prelude.{◌≡◌, ℕ, suc, length, get_or, IfOk, IfErr};
+ghost use Rattle.std.specs.Prelude.{◌≡◌, ◌<◌, length, get_or, IfOk, IfErr};
 ghost use Rattle.sg_num.specs.Stopped.{KeepsWideStep};
 ghost use Rattle.sg_spec.specs.Tree.{here, sum_from};
 ghost use Rattle.sg_expr.specs.Tree.{tree_of};
 ghost use Rattle.sg_depth.specs.Commands.{sums_of};
-ghost use Rattle.sg_depth.specs.Building.{IsBuilt, IsPlacedNext};
+ghost use Rattle.sg_depth.specs.Building.{IsPlacedNext};
 ghost use Rattle.sg_depth.specs.Fates.{IsFate};
 
 use crate::fate::Fate;
 use crate::levels::levelled;
+use crate::towers::Build;
 use sg_build::{Letters, place};
 use sg_expr::Expr;
-use sg_limits::Facts;
-use sg_num::{Row, Stop};
+use sg_num::Stop;
 use sg_tele::telescope;
 use sg_tower::Tower;
 use std::alloc::Global;
@@ -20,18 +20,15 @@ use std::alloc::Global;
 /// with the constant that gives it the value of the sum at the start.
 pub fn next_sum<F: Letters, T: Tower<K = F>>(
     alloc: Global,
-    facts: &Facts,
-    tower: &T,
-    known: &Row<T::Elem>,
-    free_gens: &Row<u32>,
+    build: &Build<'_, T>,
 ) -> Result<Fate<T::Elem>, Stop>
-    requires state { (r : ℕ) × IsBuilt facts.now (suc r) (T.reading F.vars F.val tower.now) free_gens.now known.now }
-    ensures fate { IfOk result (IsFate facts.now (T.reading F.vars F.val tower.now) free_gens.now known.now) }
+    requires next { length build.now.known < length (sums_of build.now.facts.now) }
+    ensures fate { IfOk result (IsFate build.now.facts.now (T.reading F.vars F.val build.now.tower) build.now.free_gens build.now.known) }
     ensures wide { IfErr result KeepsWideStep }
 {
-    let sum = facts.sums.get(known.len());
+    let sum = build.facts.sums.get(build.known.len());
     match sum {
-        Expr::Sum { from, body } => fate_of(alloc, facts, tower, known, free_gens, sum, from, body),
+        Expr::Sum { from, body } => fate_of(alloc, build, sum, from, body),
         Expr::Num(_) | Expr::Here | Expr::Param | Expr::Neg(_) | Expr::Pow(_, _) => unreachable!(),
         Expr::Add(_, _) | Expr::Mul(_, _) | Expr::Div(_, _) | Expr::Prod { .. } => unreachable!(),
     }
@@ -40,56 +37,49 @@ pub fn next_sum<F: Letters, T: Tower<K = F>>(
 // What the sum with this body is over those before it.
 fn fate_of<F: Letters, T: Tower<K = F>>(
     alloc: Global,
-    facts: &Facts,
-    tower: &T,
-    known: &Row<T::Elem>,
-    free_gens: &Row<u32>,
+    build: &Build<'_, T>,
     sum: &Expr,
     from: &i64,
     body: &Expr,
 ) -> Result<Fate<T::Elem>, Stop>
-    requires state { (r : ℕ) × IsBuilt facts.now (suc r) (T.reading F.vars F.val tower.now) free_gens.now known.now }
-    requires next { get_or (sums_of facts.now) (length known.now) here ≡ sum_from from.now (tree_of body.now) }
+    requires inside { length build.now.known < length (sums_of build.now.facts.now) }
+    requires next { get_or (sums_of build.now.facts.now) (length build.now.known) here ≡ sum_from from.now (tree_of body.now) }
     requires same { tree_of sum.now ≡ sum_from from.now (tree_of body.now) }
-    ensures fate { IfOk result (IsFate facts.now (T.reading F.vars F.val tower.now) free_gens.now known.now) }
+    ensures fate { IfOk result (IsFate build.now.facts.now (T.reading F.vars F.val build.now.tower) build.now.free_gens build.now.known) }
     ensures wide { IfErr result KeepsWideStep }
 {
-    let beta = difference(alloc, facts, tower, known, free_gens, from, body)?;
-    match telescope(alloc, tower, &beta)? {
+    let beta = difference(alloc, build, from, body)?;
+    match telescope(alloc, &build.tower, &beta)? {
         None => Ok(Fate::New(beta)),
         Some(y) => {
-            let h = levelled(alloc, facts, tower, known, free_gens, sum, y)?;
+            let h = levelled(alloc, build, sum, y)?;
             Ok(Fate::Known(h))
         }
     }
 }
 
-// The difference of the sum with this body: the body's element, one place further.
+// The difference of the sum with this lower limit and this body: the body's element, one place further.
 fn difference<F: Letters, T: Tower<K = F>>(
     alloc: Global,
-    facts: &Facts,
-    tower: &T,
-    known: &Row<T::Elem>,
-    free_gens: &Row<u32>,
+    build: &Build<'_, T>,
     from: &i64,
     body: &Expr,
 ) -> Result<T::Elem, Stop>
-    requires state { (r : ℕ) × IsBuilt facts.now (suc r) (T.reading F.vars F.val tower.now) free_gens.now known.now }
-    requires next { get_or (sums_of facts.now) (length known.now) here ≡ sum_from from.now (tree_of body.now) }
-    ensures step { IfOk result (IsPlacedNext facts.now (T.reading F.vars F.val tower.now) free_gens.now known.now (tree_of body.now)) }
+    requires inside { length build.now.known < length (sums_of build.now.facts.now) }
+    requires next { get_or (sums_of build.now.facts.now) (length build.now.known) here ≡ sum_from from.now (tree_of body.now) }
+    ensures step { IfOk result (IsPlacedNext build.now.facts.now (T.reading F.vars F.val build.now.tower) build.now.free_gens build.now.known (tree_of body.now)) }
     ensures wide { IfErr result KeepsWideStep }
 {
-    let _ = free_gens;
     let _ = from;
-    let (before, _) = facts.sums.as_slice().split_at(known.len());
+    let (before, _) = build.facts.sums.as_slice().split_at(build.known.len());
     let placed = place(
         alloc,
-        tower,
-        facts.prods.as_slice(),
+        &build.tower,
+        build.facts.prods.as_slice(),
         before,
-        known.as_slice(),
+        build.known.as_slice(),
         body,
     )?;
-    let beta = tower.shift(alloc, &placed)?;
+    let beta = build.tower.shift(alloc, &placed)?;
     Ok(beta)
 }

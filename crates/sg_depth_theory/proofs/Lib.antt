@@ -4,4 +4,3 @@ pub mod Stepping
 pub mod Items
 pub mod Listed
 pub mod Summing
-pub mod Among

@@ -8,7 +8,6 @@
 --   IsCheck facts f g b          whether g telescopes f from the start on; else the equation fails beyond every point
 --   AreTelling facts places sts  what is told of the sums, of which the new ones are those at the places
 --   IsTelling facts places i n sts     so of the first i sums, of which the first n places are
---   AreFree facts places gs      the sums at the places
 use Rattle.std.specs.Prelude.{◌≡◌, ℕ, ℤ, ◌≤ℤ◌, List, [], ◌++◌, Option, None, Some, Bool, true, false}
 use Rattle.sg_algebra.specs.Coefficients.{Each}
 use Rattle.sg_algebra.proofs.Value.{Value}
@@ -62,6 +61,3 @@ AreTelling facts places sts = AreMarked IsWhole facts.start (sums_of facts) plac
 
 abbrev pub IsTelling : Facts → List ℕ → ℕ → ℕ → List Standing → Type 0
 IsTelling facts places i n sts = IsMarked IsWhole facts.start (sums_of facts) places i n (marks_of sts)
-
-abbrev pub AreFree : Facts → List ℕ → List Tree → Type 0
-AreFree facts places gs = gs ≡ at_places (sums_of facts) places

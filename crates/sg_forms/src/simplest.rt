@@ -1,21 +1,15 @@
-ghost use Rattle.std.specs.Prelude.{◌≡◌, ◌<◌, ◌≤ℤ◌, pos, negsuc, false, length, map, All, None, Some, IfOk, IfErr};
-ghost use Rattle.sg_algebra.specs.Coefficients.{Each};
+ghost use Rattle.std.specs.Prelude.{◌<◌, false, length, map, All, IfOk, IfErr};
 ghost use Rattle.sg_num.specs.Stopped.{KeepsWideStep};
-ghost use Rattle.sg_num.specs.Value.{number};
 ghost use Rattle.sg_expr.specs.Tree.{tree_of};
-ghost use Rattle.sg_spec.specs.Faults.{parts_of, AreSpared};
-ghost use Rattle.sg_spec.specs.Limits.{counted};
 ghost use Rattle.sg_spec.specs.Printing.{InForm};
-ghost use Rattle.sg_limits.specs.Counts.{AreFacts};
 ghost use Rattle.sg_build.specs.Letters.{letter, HasNoLetter};
-ghost use Rattle.sg_depth.specs.Commands.{AreSound, StandsOver, sums_of};
-ghost use Rattle.sg_worth_theory.proofs.Plain.{HasNoProduct};
+ghost use Rattle.sg_depth.specs.Commands.{AreSound, AreAdmitted, sums_of};
 ghost use Rattle.sg_forms.specs.Commands.{IsFirstSimplified, HasOneForm};
 ghost use Rattle.sg_forms.specs.Listed.{IsListed, IsSimplestOf, IsPrintedForm};
 
-use crate::frees::{free_sums, standings_in};
-use crate::placing::{placed, said};
-use sg_depth::{Job, with_tower};
+use crate::frees::standings_in;
+use crate::placing::{expression_over, placed};
+use sg_depth::{Built, Job, free_sums, with_tower};
 use sg_expr::Expr;
 use sg_limits::Facts;
 use sg_num::{Rat, Row, Stop};
@@ -27,18 +21,13 @@ use std::alloc::Global;
 /// point on. The error is out of memory, or a step that doesn't fit 128 bits.
 pub fn simplified(alloc: Global, facts: &Facts, items: &Row<Expr>, lower: i64) -> Result<Expr, Stop>
     requires some { 0 < length items.now }
-    requires form { Each (InForm false false) (map tree_of items.now) }
-    requires plain { Each HasNoProduct (map tree_of items.now) }
-    requires low { negsuc 999 ≤ℤ lower }
-    requires high { lower ≤ℤ pos 1000 }
-    requires kept { counted (map tree_of items.now) ≡ None }
-    requires spared { AreSpared (parts_of (Some lower) (map tree_of items.now)) }
-    requires facts { AreFacts facts.now (Some lower) (map tree_of items.now) }
+    requires admitted { AreAdmitted lower facts.now (map tree_of items.now) }
     ensures simplified { IfOk result (λ h. IsFirstSimplified lower (map tree_of items.now) (tree_of h)) }
     ensures one_form { IfOk result (λ h. HasOneForm (map tree_of items.now) (tree_of h)) }
     ensures form { IfOk result (λ h. InForm false false (tree_of h)) }
     ensures wide { IfErr result KeepsWideStep }
 {
+    // the limit stands in the contract alone: the facts have it already
     let _ = lower;
     let h = simplest(alloc, facts, items.get(0))?;
     Ok(h)
@@ -77,12 +66,9 @@ impl Job<Rat> for Simplification {
     fn run<T: Tower<K = Rat>>(
         self,
         alloc: Global,
-        facts: &Facts,
-        tower: &T,
-        known: &Row<T::Elem>,
-        free_gens: &Row<u32>,
+        built: &Built<'_, T>,
     ) -> Result<Expr, Stop> {
-        let h = simplest_in(alloc, facts, tower, known, free_gens, &self.expression)?;
+        let h = simplest_in(alloc, built, &self.expression)?;
         Ok(h)
     }
 }
@@ -90,23 +76,17 @@ impl Job<Rat> for Simplification {
 // The same in the tower over the sums. That the form is the only one rests on what each of the sums is, so that is found out first.
 fn simplest_in<T: Tower<K = Rat>>(
     alloc: Global,
-    facts: &Facts,
-    tower: &T,
-    known: &Row<T::Elem>,
-    free_gens: &Row<u32>,
+    built: &Built<'_, T>,
     f: &Expr,
 ) -> Result<Expr, Stop>
-    requires listed { IsListed facts.now (tree_of f.now) }
-    requires sound { AreSound (letter 0) facts.now }
-    requires tower { StandsOver (letter 0) facts.now (T.reading 0 number tower.now) free_gens.now known.now }
-    ensures simplest { IfOk result (λ h. IsSimplestOf facts.now (tree_of f.now) (tree_of h)) }
-    ensures printed { IfOk result (λ h. IsPrintedForm facts.now (tree_of h)) }
+    requires listed { IsListed built.now.facts.now (tree_of f.now) }
+    ensures simplest { IfOk result (λ h. IsSimplestOf built.now.facts.now (tree_of f.now) (tree_of h)) }
+    ensures printed { IfOk result (λ h. IsPrintedForm built.now.facts.now (tree_of h)) }
     ensures wide { IfErr result KeepsWideStep }
 {
-    let told = standings_in(alloc, facts, tower, known, free_gens)?;
-    let _ = told;
-    let x = placed(alloc, facts, tower, known, free_gens, f)?;
-    let frees = free_sums(alloc, facts, free_gens)?;
-    let h = said(alloc, facts, tower, known, free_gens, &frees, &x)?;
+    let _told = standings_in(alloc, built)?;
+    let x = placed(alloc, built, f)?;
+    let frees = free_sums(alloc, built)?;
+    let h = expression_over(alloc, built, &frees, &x)?;
     Ok(h)
 }

@@ -1,17 +1,12 @@
-ghost use Rattle.std.specs.Prelude.{◌≡◌, negsuc, false, map, All, None, Some, IfOk, IfErr};
-ghost use Rattle.sg_algebra.specs.Coefficients.{Each};
+ghost use Rattle.std.specs.Prelude.{negsuc, map, IfOk, IfErr};
 ghost use Rattle.sg_num.specs.Stopped.{KeepsWideStep};
 ghost use Rattle.sg_expr.specs.Tree.{tree_of};
-ghost use Rattle.sg_spec.specs.Faults.{parts_of, AreSpared};
 ghost use Rattle.sg_spec.specs.Generators.{sums, start};
-ghost use Rattle.sg_spec.specs.Limits.{counted};
-ghost use Rattle.sg_spec.specs.Printing.{InForm};
-ghost use Rattle.sg_limits.specs.Counts.{AreFacts};
-ghost use Rattle.sg_worth_theory.proofs.Plain.{HasNoProduct};
+ghost use Rattle.sg_depth.specs.Commands.{AreAdmitted};
 ghost use Rattle.sg_forms.specs.Commands.{AreTold, ArePrinted};
 
 use crate::frees::{Standing, standings_in};
-use sg_depth::{Job, with_tower};
+use sg_depth::{Built, Job, with_tower};
 use sg_expr::Expr;
 use sg_limits::Facts;
 use sg_num::{Rat, Row, Stop};
@@ -22,15 +17,12 @@ use std::alloc::Global;
 /// canonical form, from the start of the facts on. The limit from which the start counts is -1,001, below all sums. The error is
 /// out of memory, or a step that doesn't fit 128 bits.
 pub fn standings(alloc: Global, facts: &Facts, items: &Row<Expr>) -> Result<Row<Standing>, Stop>
-    requires form { Each (InForm false false) (map tree_of items.now) }
-    requires plain { Each HasNoProduct (map tree_of items.now) }
-    requires kept { counted (map tree_of items.now) ≡ None }
-    requires spared { AreSpared (parts_of (Some (negsuc 1000)) (map tree_of items.now)) }
-    requires facts { AreFacts facts.now (Some (negsuc 1000)) (map tree_of items.now) }
+    requires admitted { AreAdmitted (negsuc 1000) facts.now (map tree_of items.now) }
     ensures told { IfOk result (AreTold (start (map tree_of items.now) (negsuc 1000)) (sums (map tree_of items.now))) }
     ensures printed { IfOk result ArePrinted }
     ensures wide { IfErr result KeepsWideStep }
 {
+    // the expressions stand in the contract alone: the facts have their sums
     let _ = items;
     let told = with_tower(alloc, facts, Telling)?;
     Ok(told)
@@ -52,13 +44,10 @@ impl Job<Rat> for Telling {
     fn run<T: Tower<K = Rat>>(
         self,
         alloc: Global,
-        facts: &Facts,
-        tower: &T,
-        known: &Row<T::Elem>,
-        free_gens: &Row<u32>,
+        built: &Built<'_, T>,
     ) -> Result<Row<Standing>, Stop> {
         let Telling = self;
-        let told = standings_in(alloc, facts, tower, known, free_gens)?;
+        let told = standings_in(alloc, built)?;
         Ok(told)
     }
 }

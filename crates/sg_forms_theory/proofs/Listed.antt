@@ -4,6 +4,7 @@
 --   equal-from         what says what its item says is equal to an expression from the start on
 --   item-alone         forms that agree with it from some point on are of the same item
 --   free-place         a sum at one of the places is new over all sums before it
+--   are-new            so the sums at the places are new ones
 --   known-stands       each other sum agrees with its item
 --   known-below        its item holds no sum but those before it
 use Rattle.std.proofs.Common.{◌≡◌, ℕ, zero, suc, ◌<◌, ℤ, ◌≤ℤ◌, refl, sym, ap, ◌∙◌, subst, List, [], ◌∷◌, ◌++◌, length, map, take, drop, get_or, arith}
@@ -25,7 +26,7 @@ use Rattle.sg_value_theory.proofs.PointsOf.{HasValues, HasUnits}
 use Rattle.sg_value_theory.proofs.Lists.{each-at}
 use Rattle.sg_depth_theory.proofs.Sums.{units}
 use Rattle.sg_depth_theory.proofs.Summing.{all-have, frees-all, KnownAgree, known-at}
-use Rattle.sg_forms_theory.specs.Sums.{IsFree, IsEqualFrom}
+use Rattle.sg_forms_theory.specs.Sums.{IsFree, AreNew, IsEqualFrom}
 use Rattle.sg_forms_theory.specs.Checks.{TelescopesFrom, FailsBeyond}
 use Rattle.sg_forms_theory.proofs.Steps.{Stands, same_from, steps_from, fails_past, one_element}
 use Rattle.sg_forms_theory.proofs.Free.{free_at}
@@ -90,6 +91,19 @@ module _ (s : ℤ) (ps ss : List Tree) {E : Type 0} (F : Formal 0) (m : E → El
       let e = length-take-le i ss (omega (arith, inside)) in
       free_at s (take i ss) (get_or ss i here) (drop (suc i) ss) F places (map m known) tower independent
       (subst (λ (gs : List Tree). Each (HasValues no_letter) gs) whole (all-have s ps ss F m places known is sound)) j l (at ∙ sym e)
+
+  pub are-new : IsIndependent F → AreNew ss (at_places ss places)
+  are-new independent = record {
+    places = places;
+    ascending = is.ascending;
+    inside = is.inside;
+    are = refl;
+    new = each-new places (λ j l. free-place independent j (get_or places j 0) l refl (each-at (λ i. i < length ss) places j 0 l is.inside));
+  }
+    where
+      each-new : (ks : List ℕ) → ((j : ℕ) → j < length ks → IsFree (take (get_or ks j 0) ss) (get_or ss (get_or ks j 0) here)) → Each (λ i. IsFree (take i ss) (get_or ss i here)) ks
+      each-new [] h = tt
+      each-new (k ∷ ks) h = (h 0 (omega arith), each-new ks (λ j l. h (suc j) (omega (arith, l))))
 
   pub sum-has : (i : ℕ) → i < length ss → HasFromStart (get_or ss i here)
   sum-has i l k late = each-at (HasValues no_letter) ss i here l (all-have s ps ss F m places known is sound) k

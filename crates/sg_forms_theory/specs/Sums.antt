@@ -1,6 +1,7 @@
 -- What the sums of a list are over those before them, and the simplest form of an expression over them, where Q says which polynomials may stand above and below
 -- in a coefficient.
 --   IsFree before g               the sum g is new: no expression over the sums before, which may stand in divisors, agrees with g from any point on
+--   AreNew ss gs                  the sums gs are some of the sums ss, in their order, each new over all sums of ss before it
 --   IsEqualFrom s h f             the expressions h and f have one value at every place from s on
 --   IsExpressed Q s before gs g h     h is g in canonical form over the sums gs, and so over the sums before
 --   frees ss os                   the new ones of the sums ss: those for which no expression stands in the list os
@@ -8,15 +9,24 @@
 --   AreStandings Q s ss os        so for each sum of ss and those before it, of which the expressions hold the new ones alone
 --   IsSimplest Q s ss f h         h is f in canonical form over the new ones of the sums ss, from s on; no other such form agrees with f from any point on
 use Rattle.std.specs.Prelude.{◌≡◌, ℕ, ◌<◌, ℤ, pos, ◌≤ℤ◌, Option, Some, None, List, [], ◌∷◌, length, take, get_or}
+use Rattle.sg_algebra.specs.Coefficients.{Each}
 use Rattle.sg_spec.specs.Tree.{Tree, here}
 use Rattle.sg_spec.specs.Value.{val, SameValue}
 use Rattle.sg_spec.specs.Generators.{Over}
 use Rattle.sg_spec.specs.Telescoping.{Agree}
 use Rattle.sg_spec.specs.Canonical.{Plane}
+use Rattle.sg_value_theory.proofs.TowerOf.{Ascending, at_places}
 use Rattle.sg_forms_theory.specs.Forms.{IsFormOver}
 
 abbrev pub IsFree : List Tree → Tree → Type 0
 IsFree before g = (e : Tree) → Over before e → ¬ Agree e g
+
+pub record AreNew (ss gs : List Tree) : Type 0 where
+  pub places : List ℕ
+  pub ascending : Ascending places
+  pub inside : Each (λ i. i < length ss) places
+  pub are : gs ≡ at_places ss places
+  pub new : Each (λ i. IsFree (take i ss) (get_or ss i here)) places
 
 abbrev pub IsEqualFrom : ℤ → Tree → Tree → Type 0
 IsEqualFrom s h f = (k : ℤ) → s ≤ℤ k → SameValue (val h (pos 0) k) (val f (pos 0) k)

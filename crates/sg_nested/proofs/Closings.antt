@@ -22,11 +22,11 @@ use Rattle.sg_build.specs.Letters.{letter}
 use Rattle.sg_build.specs.Points.{AreUnits, HasPlace, IsPlaced}
 use Rattle.sg_build.specs.Expressions.{ExpressesOver, IsOverAlike, IsPrintedAlike}
 use Rattle.sg_tele.specs.Telescoping.{IsAntidifference}
-use Rattle.sg_depth.specs.Commands.{AreSound, StandsOver, sums_of, prods_of}
+use Rattle.sg_depth.specs.Commands.{AreSound, AreNewSums, StandsOver, sums_of, prods_of}
 use Rattle.sg_depth_theory.proofs.Sums.{over-earlier}
 use Rattle.sg_depth_theory.proofs.Summing.{somewhere, no-sum, regular-start, closed-by}
-use Rattle.sg_depth_theory.proofs.Among.{canonical-among, inside-places}
-use Rattle.sg_nested.specs.Summands.{IsSummand, IsClosedForm, IsCanonicalForm, IsPrintedForm, HasNoClosedForm, AreFree, HasStart, IsTotal}
+use Rattle.sg_forms_theory.proofs.Listed.{are-new}
+use Rattle.sg_nested.specs.Summands.{IsSummand, IsClosedForm, IsCanonicalForm, IsPrintedForm, HasNoClosedForm, HasStart, IsTotal}
 
 each-of-places : (P : Tree → Type 0) (ss : List Tree) (m : ℕ) (places : List ℕ) → ((i : ℕ) → i < m → P (get_or ss i here)) → Each (λ i. i < m) places → Each P (at_places ss places)
 each-of-places P ss m [] k h = tt
@@ -53,12 +53,14 @@ module _ (facts : Facts) {E : Type 0} (ρ : Reading 0 E) (places : List ℕ) (kn
       each-of-places (Over (sums_of facts)) (sums_of facts) (length (sums_of facts)) places
       (λ i l. own-over (prods_of facts) _ (sums_of facts) (get_or (sums_of facts) i here) (over-earlier (letter 0) facts.start (prods_of facts) (sums_of facts) sound i l) (Contains-get_or (sums_of facts) i here l)) stands.inside
 
-  pub canonical-is : (frees : List Tree) (h : Tree) → AreFree facts places frees → IsCanonicalOver [] frees h → IsCanonicalForm facts h
-  canonical-is frees h is c =
-      subst (λ (ps : List Tree). IsCanonicalOver ps (sums_of facts) h) (sym sound.no_products)
-      (canonical-among [] (at_places (sums_of facts) places) (sums_of facts) (inside-places (sums_of facts) places stands.ascending stands.inside) h (subst (λ (gs : List Tree). IsCanonicalOver [] gs h) is c))
+  pub canonical-is : IsIndependent ρ.formal → (frees : List Tree) (h : Tree) → AreNewSums facts places frees → IsCanonicalOver [] frees h → IsCanonicalForm facts h
+  canonical-is independent frees h is c = (
+    at_places (sums_of facts) places,
+    are-new facts.start (prods_of facts) (sums_of facts) ρ.formal ρ.of places known stands sound independent,
+    subst (λ (ps : List Tree). IsCanonicalOver ps (at_places (sums_of facts) places) h) (sym sound.no_products) (subst (λ (gs : List Tree). IsCanonicalOver [] gs h) is c),
+  )
 
-  pub form-is : (frees : List Tree) (h : Tree) → AreFree facts places frees → IsPrintedAlike 0 [] frees h → IsPrintedForm facts h
+  pub form-is : (frees : List Tree) (h : Tree) → AreNewSums facts places frees → IsPrintedAlike 0 [] frees h → IsPrintedForm facts h
   form-is frees h is p all =
       p refl tt
       (subst (Each (InForm false false)) (sym is)
@@ -76,7 +78,7 @@ module _ (facts : Facts) {E : Type 0} (ρ : Reading 0 E) (places : List ℕ) (kn
         pub regular-is : HasStart facts ρ places g
         regular-is p i = regular-start facts.start (prods_of facts) (sums_of facts) ρ.formal ρ.of places known stands sound f a summand.below summand.values x placed (ρ.of g) telescopes p i.at_start i.is_point
 
-        pub closed-is : (y : E) (total : IsTotal facts ρ places f a g y) (frees : List Tree) (h : Tree) → AreFree facts places frees → ExpressesOver (letter 0) ρ.formal (ρ.of y) [] frees h → IsOverAlike 0 [] frees h → IsClosedForm facts f a h
+        pub closed-is : (y : E) (total : IsTotal facts ρ places f a g y) (frees : List Tree) (h : Tree) → AreNewSums facts places frees → ExpressesOver (letter 0) ρ.formal (ρ.of y) [] frees h → IsOverAlike 0 [] frees h → IsClosedForm facts f a h
         closed-is y total frees h is expresses alike others starts ps-are ss-are =
             closed-by facts.start (prods_of facts) (sums_of facts) ρ.formal ρ.of places known stands sound f a summand.below summand.values x placed (ρ.of g) telescopes
             others h (ρ.of y) total.before total.found total.is_found.0 total.is_found.1.at_start total.is_found.1.is_point starts over total.is_before total.is_found.2 total.sum_is

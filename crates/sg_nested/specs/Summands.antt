@@ -1,11 +1,10 @@
 -- What is summed over the sums of a command, and what is answered. ρ says which formal tower it is and which of its elements an item stands for.
 --   IsSummand facts f a            f is built over the sums and holds no parameter, it has a value from a on, and a isn't past the start
 --   IsClosedForm facts f a h       h is a closed form of the sum of f from a on, whatever further expressions the sums are from
---   IsCanonicalForm facts h        h is the canonical form of an element over the sums
+--   IsCanonicalForm facts h        h is the canonical form of an element over new sums
 --   IsPrintedForm facts h          h is printed as it is, where the sums are
 --   HasNoClosedForm facts f        no expression over the sums telescopes f from any point on
 --   IsAnswer facts f a o           the closed form with all this, or that there is none
---   AreFree facts places gs        the sums at the places
 --   IsStartPoint facts f places p  at the point p of the tower f the variable is the start, and its sums have the values of those at the places
 --   HasStart facts ρ places y      the item y has a value at the start; IsStartValue: this one
 --   IsSumBefore facts f a u        u is the sum of f from a to the number before the start
@@ -30,6 +29,7 @@ use Rattle.sg_tower.specs.Elements.{Reading, Same}
 use Rattle.sg_limits.specs.declared.inspection.Facts.{Facts}
 use Rattle.sg_build.specs.Letters.{letter, HasNoLetter}
 use Rattle.sg_depth.specs.Commands.{sums_of, prods_of}
+use Rattle.sg_forms_theory.specs.Sums.{AreNew}
 
 pub record IsSummand (facts : Facts) (f : Tree) (a : ℤ) : Type 0 where
   pub built : BuiltOver (prods_of facts) (sums_of facts) f
@@ -42,7 +42,7 @@ IsClosedForm facts f a h =
     (others : List Tree) → facts.start ≡ start (f ∷ others) a → prods_of facts ≡ prods (f ∷ others) → sums_of facts ≡ sums (f ∷ others) → Closed f others a h facts.start
 
 abbrev pub IsCanonicalForm : Facts → Tree → Type 0
-IsCanonicalForm facts h = IsCanonicalOver (prods_of facts) (sums_of facts) h
+IsCanonicalForm facts h = (gs : List Tree) × AreNew (sums_of facts) gs × IsCanonicalOver (prods_of facts) gs h
 
 abbrev pub IsPrintedForm : Facts → Tree → Type 0
 IsPrintedForm facts h = Each (InForm false false) (sums_of facts) → InForm false false h
@@ -53,9 +53,6 @@ HasNoClosedForm facts f = (e : Tree) → Over (sums_of facts) e → ¬ Tele e f
 abbrev pub IsAnswer : Facts → Tree → ℤ → Option Expr → Type 0
 IsAnswer facts f a (Some h) = IsClosedForm facts f a (tree_of h) × IsCanonicalForm facts (tree_of h) × IsPrintedForm facts (tree_of h)
 IsAnswer facts f a None = HasNoClosedForm facts f
-
-abbrev pub AreFree : Facts → List ℕ → List Tree → Type 0
-AreFree facts places gs = gs ≡ at_places (sums_of facts) places
 
 abbrev pub IsSumBefore : Facts → Tree → ℤ → Value 0 → Type 0
 IsSumBefore facts f a u = HasWorth (letter 0) (sum_from a f) (facts.start -ℤ pos 1) u

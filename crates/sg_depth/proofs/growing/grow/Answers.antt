@@ -1,15 +1,23 @@
-use Rattle.std.proofs.Common.{ap, ap₂, ◌+◌, ◌∙◌, ◌∷◌, [], ◌++◌}
-use Rattle.sg_depth.proofs.Grown.{own-is, last-inside, raised-same}
+use Rattle.sg_depth.proofs.Calls.{next-of}
+use Rattle.sg_depth.proofs.Grown.{few, room, grown-built}
 use Rattle.sg_depth.proofs.growing.grow.Goals as goal
 
-pub generator-requires : goal.generator-requires
-generator-requires g c = last-inside (g.T.Tower.reading g.F.Field.vars g.F.Field.val c.args.tower) c.args.beta _ (c.products.result + c.sums.result) (raised-same (g.T.Tower.reading g.F.Field.vars g.F.Field.val) c.args.tower c.new-tower.result.below c.args.beta c.new-tower.result.beta c.new-tower.ensures.below c.new-tower.ensures.beta) (ap₂ ◌+◌ c.products.ensures.count c.sums.ensures.count)
+pub grown_by-requires-clause-few : goal.grown_by-requires-clause-few
+grown_by-requires-clause-few g c =
+    let ρ = g.T.Tower.reading g.F.Field.vars g.F.Field.val c.args.build.tower in
+    let n = next-of c.args.build.facts.now ρ c.args.build.free_gens c.args.build.known c.args.build.state c.requires.next in
+    few c.args.build.facts.now ρ c.args.build.free_gens c.args.build.known n.0 n.1
 
-pub returns-clause-grown : goal.returns-clause-grown
-returns-clause-grown g c = record {
-  reading_is = (raised-same (g.T.Tower.reading g.F.Field.vars g.F.Field.val) c.args.tower c.new-tower.result.below c.args.beta c.new-tower.result.beta c.new-tower.ensures.below c.new-tower.ensures.beta);
-  places_are = c.in_ok-push.ensures.ok ∙ ap (λ n. c.args.free_gens ++ n ∷ []) c.len.ensures;
-  own = c.in_ok-own.own;
-  known_are = c.in_ok-push-2.ensures.ok ∙ ap (λ xs. xs ++ c.in_ok-own.own ∷ []) c.in_ok-raised.ensures.value;
-  own_is = own-is (g.T.Tower.reading g.F.Field.vars g.F.Field.val c.args.tower) c.args.beta _ (c.products.result + c.sums.result) c.in_ok-own.own (raised-same (g.T.Tower.reading g.F.Field.vars g.F.Field.val) c.args.tower c.new-tower.result.below c.args.beta c.new-tower.result.beta c.new-tower.ensures.below c.new-tower.ensures.beta) (ap₂ ◌+◌ c.products.ensures.count c.sums.ensures.count) c.in_ok-own.ensures.value;
-}
+pub grown_by-requires-clause-room : goal.grown_by-requires-clause-room
+grown_by-requires-clause-room g c =
+    let ρ = g.T.Tower.reading g.F.Field.vars g.F.Field.val c.args.build.tower in
+    let n = next-of c.args.build.facts.now ρ c.args.build.free_gens c.args.build.known c.args.build.state c.requires.next in
+    room c.args.build.facts.now ρ c.args.build.free_gens c.args.build.known n.0 n.1
+
+pub invariant_of-result : goal.invariant_of-result
+invariant_of-result g c =
+    let ρ = g.T.Tower.reading g.F.Field.vars g.F.Field.val c.args.build.tower in
+    let n = next-of c.args.build.facts.now ρ c.args.build.free_gens c.args.build.known c.args.build.state c.requires.next in
+    record {
+      state = (n.0, grown-built c.args.build.facts.now ρ c.args.build.free_gens c.args.build.known c.args.beta _ _ _ n.0 c.in_ok-grown.ensures.grown c.requires.fate n.1);
+    }

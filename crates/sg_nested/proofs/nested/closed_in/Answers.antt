@@ -1,28 +1,22 @@
-use Rattle.std.proofs.Common.{FitsSigned, w64, map, ◌<◌, ℕ, subst}
+use Rattle.std.proofs.Common.{FitsSigned, w64, map}
 use Rattle.std.proofs.lemmas.Int.{to_z-of_z}
-use Rattle.std.proofs.lemmas.List.{length-map}
-use Rattle.sg_algebra.specs.Coefficients.{Each}
 use Rattle.sg_num.specs.Value.{number}
 use Rattle.sg_expr.specs.Tree.{tree_of}
 use Rattle.sg_nested.proofs.Closings.{somewhere-is, none-is, regular-is, closed-is, canonical-is, form-is}
-use Rattle.sg_nested.proofs.Starting.{inside-is}
 use Rattle.sg_nested.proofs.nested.closed_in.Goals as goal
 
 pub place-requires-clause-somewhere : goal.place-requires-clause-somewhere
-place-requires-clause-somewhere g c = rw (c.as_slice.ensures, c.as_slice-2.ensures, c.as_slice-3.ensures) (somewhere-is c.args.facts.now (g.T.Tower.reading 0 number c.args.tower.now) c.args.free_gens.now c.args.known.now c.requires.sound c.requires.tower (tree_of c.args.f.now) c.args.lower c.requires.summand)
+place-requires-clause-somewhere g c = rw (c.as_slice.ensures, c.as_slice-2.ensures, c.as_slice-3.ensures) (somewhere-is c.args.built.now.facts.now (g.T.Tower.reading 0 number c.args.built.now.tower) c.args.built.now.free_gens c.args.built.now.known c.args.built.now.sound c.args.built.now.stands (tree_of c.args.f.now) c.args.lower c.requires.summand)
 
 pub returns-in-None-clause-answer : goal.returns-in-None-clause-answer
 returns-in-None-clause-answer g c =
     let placed = rw (c.as_slice.ensures, c.as_slice-2.ensures, c.as_slice-3.ensures) at c.in_ok-x.ensures.value in
-    none-is c.args.facts.now (g.T.Tower.reading 0 number c.args.tower.now) c.args.free_gens.now c.args.known.now c.requires.sound c.requires.tower (tree_of c.args.f.now) c.args.lower c.requires.summand c.in_ok-x.x placed (g.met.T.Tower.independent c.args.tower.now) (rw c.in-None.is at c.in_ok-telescope.ensures.none)
+    none-is c.args.built.now.facts.now (g.T.Tower.reading 0 number c.args.built.now.tower) c.args.built.now.free_gens c.args.built.now.known c.args.built.now.sound c.args.built.now.stands (tree_of c.args.f.now) c.args.lower c.requires.summand c.in_ok-x.x placed (g.met.T.Tower.independent c.args.built.now.tower) (rw c.in-None.is at c.in_ok-telescope.ensures.none)
 
 pub total-requires-clause-regular : goal.total-requires-clause-regular
 total-requires-clause-regular g c =
     let placed = rw (c.as_slice.ensures, c.as_slice-2.ensures, c.as_slice-3.ensures) at c.in_ok-x.ensures.value in
-    regular-is c.args.facts.now (g.T.Tower.reading 0 number c.args.tower.now) c.args.free_gens.now c.args.known.now c.requires.sound c.requires.tower (tree_of c.args.f.now) c.args.lower c.requires.summand c.in_ok-x.x placed c.in-Some.g (rw c.in-Some.is at c.in_ok-telescope.ensures.some)
-
-pub free_sums-requires : goal.free_sums-requires
-free_sums-requires g c = record { inside = subst (λ (n : ℕ). Each (λ i. i < n) c.args.free_gens.now) (length-map c.args.facts.now.sums tree_of) (inside-is c.args.facts.now (g.T.Tower.reading 0 number c.args.tower.now) c.args.free_gens.now c.args.known.now c.requires.sound c.requires.tower) }
+    regular-is c.args.built.now.facts.now (g.T.Tower.reading 0 number c.args.built.now.tower) c.args.built.now.free_gens c.args.built.now.known c.args.built.now.sound c.args.built.now.stands (tree_of c.args.f.now) c.args.lower c.requires.summand c.in_ok-x.x placed c.in-Some.g (rw c.in-Some.is at c.in_ok-telescope.ensures.some)
 
 pub returns-clause-answer : goal.returns-clause-answer
 returns-clause-answer g c =
@@ -34,7 +28,7 @@ returns-clause-answer g c =
     let over = rw (c.as_slice-in-Some.ensures, c.new-none.ensures, c.as_slice-in-Some-2.ensures) at c.in_ok-h-in-Some.ensures.over in
     let canonical = rw (c.as_slice-in-Some.ensures, c.new-none.ensures, c.as_slice-in-Some-2.ensures) at c.in_ok-h-in-Some.ensures.canonical in
     let form = rw (c.as_slice-in-Some.ensures, c.new-none.ensures, c.as_slice-in-Some-2.ensures) at c.in_ok-h-in-Some.ensures.form in (
-      closed-is c.args.facts.now (g.T.Tower.reading 0 number c.args.tower.now) c.args.free_gens.now c.args.known.now c.requires.sound c.requires.tower (tree_of c.args.f.now) c.args.lower c.requires.summand c.in_ok-x.x placed c.in-Some.g telescopes c.in_ok-y-in-Some.y total (map tree_of c.in_ok-frees-in-Some.frees) (tree_of c.in_ok-h-in-Some.h) c.in_ok-frees-in-Some.ensures.sums value over,
-      canonical-is c.args.facts.now (g.T.Tower.reading 0 number c.args.tower.now) c.args.free_gens.now c.args.known.now c.requires.sound c.requires.tower (map tree_of c.in_ok-frees-in-Some.frees) (tree_of c.in_ok-h-in-Some.h) c.in_ok-frees-in-Some.ensures.sums canonical,
-      form-is c.args.facts.now (g.T.Tower.reading 0 number c.args.tower.now) c.args.free_gens.now c.args.known.now c.requires.sound c.requires.tower (map tree_of c.in_ok-frees-in-Some.frees) (tree_of c.in_ok-h-in-Some.h) c.in_ok-frees-in-Some.ensures.sums form,
+      closed-is c.args.built.now.facts.now (g.T.Tower.reading 0 number c.args.built.now.tower) c.args.built.now.free_gens c.args.built.now.known c.args.built.now.sound c.args.built.now.stands (tree_of c.args.f.now) c.args.lower c.requires.summand c.in_ok-x.x placed c.in-Some.g telescopes c.in_ok-y-in-Some.y total (map tree_of c.in_ok-frees-in-Some.frees) (tree_of c.in_ok-h-in-Some.h) c.in_ok-frees-in-Some.ensures value over,
+      canonical-is c.args.built.now.facts.now (g.T.Tower.reading 0 number c.args.built.now.tower) c.args.built.now.free_gens c.args.built.now.known c.args.built.now.sound c.args.built.now.stands (g.met.T.Tower.independent c.args.built.now.tower) (map tree_of c.in_ok-frees-in-Some.frees) (tree_of c.in_ok-h-in-Some.h) c.in_ok-frees-in-Some.ensures canonical,
+      form-is c.args.built.now.facts.now (g.T.Tower.reading 0 number c.args.built.now.tower) c.args.built.now.free_gens c.args.built.now.known c.args.built.now.sound c.args.built.now.stands (map tree_of c.in_ok-frees-in-Some.frees) (tree_of c.in_ok-h-in-Some.h) c.in_ok-frees-in-Some.ensures form,
     )

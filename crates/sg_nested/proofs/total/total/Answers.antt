@@ -12,5 +12,5 @@ returns-clause-total g c =
       found = number c.in_ok-found.found;
       is_before = simp to_z-of_z at c.in_ok-before.ensures.value;
       is_found = c.in_ok-found.ensures.value;
-      sum_is = total-sum (g.T.Tower.reading 0 number c.args.tower.now) c.args.g.now c.in_ok-next.next c.in_ok-y.y (number c.in_ok-c.c) (number c.in_ok-before.before) (number c.in_ok-found.found) c.in_ok-next.ensures.value c.in_ok-y.ensures.sum c.in_ok-c.ensures.value;
+      sum_is = total-sum (g.T.Tower.reading 0 number c.args.built.now.tower) c.args.g.now c.in_ok-next.next c.in_ok-y.y (number c.in_ok-c.c) (number c.in_ok-before.before) (number c.in_ok-found.found) c.in_ok-next.ensures.value c.in_ok-y.ensures.sum c.in_ok-c.ensures.value;
     }

@@ -1,6 +1,8 @@
 -- Expressions over their own products and sums, and the answers of a command as statements on values.
---   IsOuter parameter f    what a text is at its outer scope: what is divided by is a divisor
---   own_built              it is built over its own products and sums
+--   IsOuter parameter f    in f, outside of sums and products, what is divided by is a divisor, and the parameter stands only where it may
+--   outer_of_form          an expression in form is so
+--   built_all              such an expression is built over what is allowed, if its products and sums are
+--   own_built              so over its own products and sums
 --   NoneOver E f           no expression over the products and sums of the texts telescopes f from any point on
 --   closed_some            where there is a closed form, some expression does
 --   none_over              where nothing telescopes the element of f, none does
@@ -8,6 +10,7 @@ use Rattle.std.proofs.Common.{ℤ, pos, ◌-ℤ◌, ◌≤ℤ◌, List, ◌∷�
 use Rattle.std.proofs.lemmas.List.Elements.{Contains-append_left, Contains-append_right, Contains-push}
 use Rattle.sg_algebra.specs.Coefficients.{Each}
 use Rattle.sg_spec.specs.Tree.{Tree, numeral, here, param, add, neg, mul, div, power, sum_from, prod_from}
+use Rattle.sg_spec.specs.Printing.{InForm}
 use Rattle.sg_spec.specs.Shape.{is_divisor_tree}
 use Rattle.sg_spec.specs.Value.{val, total, SameValue}
 use Rattle.sg_spec.specs.Generators.{Allowed, BuiltOver, all_sums, all_prods, concatenated, sums, prods}
@@ -33,6 +36,18 @@ IsOuter parameter (div x y) = IsOuter parameter x × IsOuter parameter y × IsTr
 IsOuter parameter (power x e) = IsOuter parameter x
 IsOuter parameter (sum_from from body) = Unit {0}
 IsOuter parameter (prod_from from body) = Unit {0}
+
+pub outer_of_form : (known in_product : Bool) (t : Tree) → InForm known in_product t → IsOuter known t
+outer_of_form known p (numeral c) f = tt
+outer_of_form known p here f = tt
+outer_of_form known p param f = f
+outer_of_form known p (add x y) f = (outer_of_form known p x f.0, outer_of_form known p y f.1)
+outer_of_form known p (neg x) f = outer_of_form known p x f
+outer_of_form known p (mul x y) f = (outer_of_form known p x f.0, outer_of_form known p y f.1)
+outer_of_form known p (div x y) f = (outer_of_form known p x f.0, outer_of_form known p y f.1, f.2)
+outer_of_form known p (power x e) f = outer_of_form known p x f
+outer_of_form known p (sum_from from body) f = tt
+outer_of_form known p (prod_from from body) f = tt
 
 pub built_all : (allowed : Allowed) (f : Tree) → IsOuter allowed.parameter f → ((t : Tree) → Contains (all_prods f) t → Contains allowed.products t)
     → ((t : Tree) → Contains (all_sums f) t → Contains allowed.sums t) → BuiltOver allowed f

@@ -12,3 +12,4 @@ pub mod Items
 pub mod Written
 pub mod Widening
 pub mod Listed
+mod PowerProductExamples

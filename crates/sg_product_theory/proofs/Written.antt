@@ -1,6 +1,5 @@
 -- Products of powers of products, as they are written.
---   power_product ps es       the canonical tree of the product of the powers of the products ps by es
---   power_product-worth       its value
+--   power_product-worth       the value of such a product
 --   related                   where a relation of the factors holds, a constant times r has from s on the value of the product of the powers
 use Rattle.std.proofs.Common.{◌≡◌, ℕ, zero, suc, ℤ, pos, negsuc, ◌+ℤ◌, ◌≤ℤ◌, refl, sym, ap, ap₂, ◌∙◌, subst, List, [], ◌∷◌, ◌++◌, length, arith}
 use Rattle.std.proofs.lemmas.Int.{ints}
@@ -12,7 +11,7 @@ use Rattle.sg_algebra.proofs.ValueField.{ValueR, ValueF, value_mul-inv, value_on
 use Rattle.sg_algebra.proofs.Rational.{whole_value}
 use Rattle.sg_spec.specs.Tree.{Tree}
 use Rattle.sg_spec.specs.Worth.{HasWorth}
-use Rattle.sg_spec.specs.Canonical.{Plane, raised_factor, upper_factor, lower_factor, factors, element_tree}
+use Rattle.sg_spec.specs.Canonical.{raised_factor, upper_factor, lower_factor, factors}
 use Rattle.sg_spec.proofs.Totals.{from_on}
 use Rattle.sg_worth_theory.proofs.Worths.{worth_unique}
 use Rattle.sg_worth_theory.proofs.WrittenTerms.{IsProduct, IsInverse, product-append, factor-product}
@@ -23,18 +22,13 @@ use Rattle.sg_value_theory.proofs.Quotients.{quotients}
 use Rattle.sg_value_theory.proofs.TreePoints.{AreValues}
 use Rattle.sg_value_theory.proofs.PointsOf.{HasUnits, point_at, is-point}
 use Rattle.sg_value_theory.proofs.FlatValues.{units_value}
+use Rattle.sg_product_theory.specs.PowerProducts.{one_plane, power_product}
 use Rattle.sg_product_theory.proofs.Growth.{Grows}
 use Rattle.sg_product_theory.proofs.Ratios.{ratio_values}
 use Rattle.sg_relations_theory.specs.Relations.{IsRatio}
 use Rattle.sg_answers_theory.proofs.InverseValues.{pow_ne, inverse_one, inverse_pow}
 use Rattle.sg_answers_theory.proofs.Relating.{AreProducts}
 use Rattle.sg_product_theory.proofs.Factors.{grows, factors-many}
-
-abbrev pub one_plane : Plane
-one_plane = (pos 1 ∷ []) ∷ []
-
-abbrev pub power_product : List Tree → List ℤ → Tree
-power_product ps es = element_tree ps [] (record { powers = []; exponents = es; upper = one_plane; lower = one_plane } ∷ [])
 
 module _ {d : ℕ} (letter : Value d) (k : ℤ) where
   alone : (a : Value d) → a ≡ a *ᵛ one_value

@@ -1,6 +1,7 @@
 -- Denominators of solutions of equations of any order s, over a domain with a map σ. An image of q is what σ makes of it, so many times.
 --   below s q           the product of the first s images of q, from q itself on
 --   OrderSides s a b q  the image of q after s steps divides a times the product before it, and q divides b times the product after it
+--   far_below           where q is coprime to its images after more than m steps, the image after s + m is coprime to the first s images
 --   order_step          where q is coprime to its images after more than m steps, and a to the image of b after s + m, a common divisor of
 --                       q and its image after m steps is a unit
 --   Far q m             q is coprime to each image of it after more than m steps
@@ -11,6 +12,11 @@ use Rattle.sg_algebra.specs.Ring.{Ring, Hom}
 use Rattle.sg_algebra.proofs.Divides.{Divides, dvd_trans, dvd_same, iter, iter-on, iter-mul, dvd_iter}
 use Rattle.sg_algebra.proofs.Coprime.{Coprime, coprime_symm, coprime_dvd, coprime_unit, coprime_on, coprime_one, coprime_same, coprime-mul, gauss}
 use Rattle.sg_algebra.proofs.Euclid.{Bezout, bezout_dvd, coprime_of_unit}
+
+-- a sum that computes by its first number
+abbrev pub plus : ℕ → ℕ → ℕ
+plus zero m = m
+plus (suc k) m = suc (plus k m)
 
 module _ (R : Ring) (σ : Hom R R) where
   open R use {A, ◌≈◌, ◌⊞◌, ◌⊠◌, ⊟, O, I, rfl, symm, trans, add_cong, mul_cong, mul_comm}
@@ -30,7 +36,7 @@ module _ (R : Ring) (σ : Hom R R) where
   iter_one zero = rfl
   iter_one (suc n) = trans (σ.on_cong (after n I) I (iter_one n)) σ.on-one
 
-  far_below : (s m : ℕ) (q : A) → ((t : ℕ) → Coprime R q (after (suc t) (after m q))) → Coprime R (after s (after m q)) (below s q)
+  pub far_below : (s m : ℕ) (q : A) → ((t : ℕ) → Coprime R q (after (suc t) (after m q))) → Coprime R (after s (after m q)) (below s q)
   far_below zero m q far = coprime_one R (after m q)
   far_below (suc s) m q far = coprime-mul R (after (suc s) (after m q)) q (σ.on (below s q)) (coprime_symm R q (after (suc s) (after m q)) (far s))
       (coprime_on R R σ (after s (after m q)) (below s q) (far_below s m q far))
@@ -69,12 +75,7 @@ module _ (R : Ring) (σ : Hom R R) where
 module _ (R : Ring) (σ : Hom R R) (bez : (a b : R.A) → Bezout R a b) (back : (h : R.A) → Divides R (σ.on h) R.I → Divides R h R.I) where
   open R use {A, ◌⊠◌, I, rfl, symm}
 
-  -- a sum that computes by its first number
-  abbrev pub plus : ℕ → ℕ → ℕ
-  plus zero m = m
-  plus (suc k) m = suc (plus k m)
-
-  back_iter : (n : ℕ) (h : A) → Divides R (iter R σ n h) I → Divides R h I
+  pub back_iter : (n : ℕ) (h : A) → Divides R (iter R σ n h) I → Divides R h I
   back_iter zero h d = d
   back_iter (suc n) h d = back_iter n h (back (iter R σ n h) d)
 

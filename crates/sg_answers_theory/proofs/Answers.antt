@@ -7,7 +7,8 @@
 --   new_sum              where nothing telescopes what one more sum grows by, no expression agrees with it from any point on
 --   IsProductOf s p a    from s on the product p isn't 0, and one place further it is itself times the value of its factor a
 --   step_factor          so is each value of it against the one before
---   new_product          where a isn't a product of powers of the factors before, times r(k + 1)/r(k), no expression over these agrees with p
+--   new_product          where a isn't a product of powers of the factors before, times r(k + 1)/r(k), no expression over these agrees
+--                        with p
 use Rattle.std.proofs.Common.{◌≡◌, ℕ, suc, ℤ, pos, ◌+ℤ◌, ◌≤ℤ◌, refl, sym, ap, ◌∙◌, subst, List, [], ◌∷◌, Contains, arith}
 use Rattle.std.proofs.lemmas.Int.{ints}
 use Rattle.sg_algebra.specs.Ring.{Ring}

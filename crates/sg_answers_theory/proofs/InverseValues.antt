@@ -1,6 +1,6 @@
 -- Powers and inverses of values.
 --   left_ne, right_ne     what a product other than 0 is of isn't 0
---   pow_ne, power_ne      powers of what isn't 0 aren't 0
+--   neg_ne, pow_ne, inverse_ne, power_ne      the opposite, powers and the inverse of what isn't 0 aren't 0
 --   inverse_neg, inverse_one, inverse_mul, inverse_pow      the inverse of an opposite, of 1, of a product, of a power
 --   pow-mul, power-mul    a power of a product
 use Rattle.std.proofs.Common.{◌≡◌, ℕ, zero, suc, ℤ, pos, negsuc, refl, sym, ap, ◌∙◌, [], ◌∷◌}
@@ -18,6 +18,9 @@ module _ {d : ℕ} where
 
   pub right_ne : (u w : Value d) → ¬ (u *ᵛ w ≡ zero_value) → ¬ (w ≡ zero_value)
   right_ne u w n z = n (ap (◌*ᵛ◌ u) z ∙ ring (ValueR d) (u ∷ []) (search reads depth 12) refl)
+
+  pub neg_ne : (x : Value d) → ¬ (x ≡ zero_value) → ¬ (neg_value x ≡ zero_value)
+  neg_ne x h e = h (by (ValueR d) (x ∷ []) ((ValueR d).neg_cong e) (search reads depth 20) refl)
 
   pub pow_ne : (x : Value d) (n : ℕ) → ¬ (x ≡ zero_value) → ¬ (pow (ValueR d) x n ≡ zero_value)
   pow_ne x zero h = value_one_ne d

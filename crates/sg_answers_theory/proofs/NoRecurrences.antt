@@ -1,4 +1,5 @@
--- No formal recurrence, no recurrence in values: at each k the equation between numbers for all n from a bound on is one between rational functions of n.
+-- No formal recurrence, no recurrence in values: at each k the equation between numbers for all n from a bound on is one between rational
+-- functions of n.
 --   same_function        functions of the parameter with one value at each number past a bound are equal
 --   coefficient_of c     the function that a coefficient is; `coefficient-worth`
 --   zero_coefficient     where it is 0 the coefficient is 0 at each n

@@ -1,5 +1,6 @@
 -- No recurrence, over the tower of a list of expressions.
---   none_to_order      where all products are free or placed over the free ones, and each sum has its element: no formal recurrence, no recurrence in values
+--   none_to_order      where all products are free or placed over the free ones, and each sum has its element: no formal recurrence, no
+--                      recurrence in values
 use Rattle.std.proofs.Common.{◌≡◌, ℕ, ◌⊎◌, inl, inr, ℤ, subst, List, [], ◌∷◌, Contains}
 use Rattle.sg_algebra.specs.Coefficients.{Each}
 use Rattle.sg_algebra.proofs.Place.{Pairwise}

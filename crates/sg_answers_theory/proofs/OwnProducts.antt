@@ -1,6 +1,7 @@
 -- Products as they stand in expressions.
 --   product_worth        where the body has a value other than 0 from the lower limit on, the product has one at each place
---   product_of           from its lower limit less 1 on it is a product whose factor is, one place further, any function with the values of its body
+--   product_of           from its lower limit less 1 on it is a product whose factor is, one place further, any function with the values
+--                        of its body
 --   own_product          so is the function of the body
 --   placed_unit          a product whose known element has an inverse is placed
 --   placed_own           those that a tower stands over are

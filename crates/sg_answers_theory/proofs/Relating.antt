@@ -1,5 +1,6 @@
 -- Products of powers of products, in values and formally.
---   product_one, product_mul, product_pow, product_over    a product of powers is a product whose factor is that of the powers of the factors
+--   product_one, product_mul, product_pow, product_over    a product of powers is a product whose factor is that of the powers of the
+--                                                          factors
 --   powers_product         of a list of products with whole exponents
 --   function_at r          the rational function of an expression without sums and products; `function-at`
 --   Relation A             a function other than 0 whose next value is A times it

@@ -1,9 +1,11 @@
 -- When products agree with one another in values.
 --   AgreeInParameter e g      for each k from a point on, and for it for all n from a bound on, the two expressions have one value
 --   power_tree, powers_tree   a product of powers of expressions with whole exponents
---   IsRational parameter e    built from numerals, the variable and the operations, and the parameter where it is allowed: a rational function
+--   IsRational parameter e    built from numerals, the variable and the operations, and the parameter where it is allowed: a rational
+--                             function
 --   Same parameter e g        they agree: from a point on, or with a parameter as above
---   IsMatch parameter qs p es e     the product of the powers of the qs, by es, and of p, by e, agrees with a rational function, and e isn't 0
+--   IsMatch parameter qs p es e     the product of the powers of the qs, by es, and of p, by e, agrees with a rational function, and e
+--                                   isn't 0
 --   HasNoMatch                so p is free over qs
 --   IsExpressedOver           so p is expressed over them: there is a match in which p has the exponent 1
 --   IsDependentOver           p is neither

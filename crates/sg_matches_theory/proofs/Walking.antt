@@ -1,5 +1,6 @@
 -- Going through the products of a list, as a loop does.
---   Leads parameter qs ps qs'    from the free products qs the list ps leads to qs': each product is free over those so far, and joins them, or is expressed
+--   Leads parameter qs ps qs'    from the free products qs the list ps leads to qs': each product is free over those so far, and joins
+--                                them, or is expressed
 --   leads_free, leads_expressed  one product more at the end
 --   leads_first                  the product behind it is the first dependent one, if it is dependent
 --   leads_none                   where the whole list leads somewhere, no product is dependent

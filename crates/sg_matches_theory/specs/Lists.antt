@@ -1,5 +1,6 @@
 -- The products of a list, each over the free ones before it.
---   IsFirstDependent parameter qs ps p    with qs as the free products so far, p is the first of the list ps that is neither free nor expressed
+--   IsFirstDependent parameter qs ps p    with qs as the free products so far, p is the first of the list ps that is neither free nor
+--                                         expressed
 --   NoneDependent parameter qs ps         each of the list is one of the two
 use Rattle.std.specs.Prelude.{◌≡◌, Bool, List, [], ◌∷◌, ◌++◌, ◌⊎◌}
 use Rattle.sg_spec.specs.Tree.{Tree}

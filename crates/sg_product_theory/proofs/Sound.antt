@@ -1,8 +1,8 @@
 -- The products and sums of a command that are sound.
 --   IsProduct p          a product, over a rational function
 --   AreSound letter s ps ss      at most twenty products, each over a rational function that is never 0, and at most eight sums, each over
---                                the products and the sums before it;
---                                no range runs down from s on, and the bodies have values from their lower limits on
+--                                the products and the sums before it; no range runs down from s on, and the bodies have values from their
+--                                lower limits on
 --   products-units       each product has a value other than 0 everywhere
 --   sums-values          each sum has a value everywhere
 --   over-earlier         each sum is one over the products and those before it

@@ -1,10 +1,12 @@
 -- How far a tower over products and sums has come.
---   AreUnitsOf f ps xs                        the first elements, one for each of ps, are units
---   Stands letter s ps ss r f qs places known the tower f stands over all products and all but the last r of the sums: its products are
---   qs, its own sums are those at the places
---                                             among all products and sums, and known are the elements of all before these, products first
---   started                                   the tower over the free products stands over all products and no sum
---   whole                                     where no sum is left, the tower stands over all
+--   AreUnitsOf f ps xs     the first elements, one for each of ps, are units
+--   Stands .. r f qs places known      the tower f stands over all products and all but the last r of the sums: its products are qs, its own
+--                          sums are those at the places among all products and sums, and known are the elements of all before these,
+--                          products first
+--   started                the tower over the free products stands over all products and no sum
+--   whole                  where no sum is left, the tower stands over all
+--   frees                  each sum at one of the places has a value everywhere
+--   few-sums               the tower has at most as many sums as are listed
 use Rattle.std.proofs.Common.{◌≡◌, ℕ, suc, ◌+◌, ◌-◌, ◌<◌, ◌≤◌, ℤ, sym, ap, ◌∙◌, subst, List, [], ◌∷◌, ◌++◌, length, take, get_or, arith}
 use Rattle.std.proofs.lemmas.List.{take_all, length-append, length-take-le, get_or-take}
 use Rattle.std.proofs.Math.Seq.{take-append_seam, get_or-append_right}

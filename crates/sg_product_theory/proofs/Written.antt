@@ -1,6 +1,7 @@
 -- Products of powers of products, as they are written.
 --   power_product-worth       the value of such a product
---   related                   where a relation of the factors holds, a constant times r has from s on the value of the product of the powers
+--   related                   where a relation of the factors holds, a constant times r has from s on the value of the product of the
+--                             powers
 use Rattle.std.proofs.Common.{◌≡◌, ℕ, zero, suc, ℤ, pos, negsuc, ◌+ℤ◌, ◌≤ℤ◌, refl, sym, ap, ap₂, ◌∙◌, subst, List, [], ◌∷◌, ◌++◌, length, arith}
 use Rattle.std.proofs.lemmas.Int.{ints}
 use Rattle.sg_algebra.specs.Coefficients.{Each}

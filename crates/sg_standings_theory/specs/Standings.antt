@@ -8,8 +8,8 @@
 --   AreStandings                           what is told of the products, and then of the sums
 --   IsSimplest Q s ps ss f h               h is f in canonical form over the free products and the new sums, from s on; no other such form
 --                                          agrees with f from any point on
---   IsDependence Q s ps left right         the first product that is neither free nor expressed stands last in left, a product of powers of
---                                          it and of free ones before it; right is a rational function with the values of left from s on
+--   IsDependence Q s ps left right         the first product that is neither free nor expressed stands last in left, a product of powers
+--                                          of it and of free ones before it; right is a rational function with the values of left from s on
 use Rattle.std.specs.Prelude.{◌≡◌, ℕ, suc, ◌<◌, ℤ, pos, ◌<ℤ◌, false, Option, Some, None, List, [], ◌∷◌, ◌++◌, length, take, get_or}
 use Rattle.sg_spec.specs.Tree.{Tree, here}
 use Rattle.sg_spec.specs.Generators.{Over}

@@ -24,7 +24,8 @@ impl Quartic {
     pub fn interpolated(values: &[i128]) -> Quartic
         requires small { Each (λ v. unsigned_abs v ≤ 67108864) values.now }
         requires five { length values.now ≡ 5 }
-        ensures { (a b c d e : ℤ) → Interpolated values.now a b c d e → Interpolated values.now result.constant result.linear result.square result.cube result.fourth }
+        ensures { (a b c d e : ℤ) → Interpolated values.now a b c d e
+            → Interpolated values.now result.constant result.linear result.square result.cube result.fourth }
     {
         Quartic {
             constant: coefficient(&[24, 0, 0, 0, 0], values),
@@ -34,13 +35,13 @@ impl Quartic {
             fourth: coefficient(&[1, -4, 6, -4, 1], values),
         }
     }
-}
 
-impl Quartic {
     /// Whether it is what the other polynomial grows by from each number to the next.
     pub fn is_difference_of(self, other: Quartic) -> bool
-        ensures yes { IsTrue result → IsDifference self.constant self.linear self.square self.cube self.fourth (other.constant ∷ other.linear ∷ other.square ∷ other.cube ∷ other.fourth ∷ []) }
-        ensures no { IsDifference self.constant self.linear self.square self.cube self.fourth (other.constant ∷ other.linear ∷ other.square ∷ other.cube ∷ other.fourth ∷ []) → IsTrue result }
+        ensures yes { IsTrue result → IsDifference self.constant self.linear self.square self.cube self.fourth
+            (other.constant ∷ other.linear ∷ other.square ∷ other.cube ∷ other.fourth ∷ []) }
+        ensures no { IsDifference self.constant self.linear self.square self.cube self.fourth
+            (other.constant ∷ other.linear ∷ other.square ∷ other.cube ∷ other.fourth ∷ []) → IsTrue result }
     {
         let p = [
             other.constant,

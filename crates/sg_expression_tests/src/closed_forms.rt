@@ -1,5 +1,5 @@
 use sg_expr::Expr;
-use sg_plain::{closed_form, telescopes};
+use sg_plain::{closed_form, plain_form, telescopes};
 use std::alloc::{AllocError, Global};
 use std::test::Fail;
 
@@ -120,5 +120,19 @@ fn differences_of_polynomials(rt: HostRuntime) -> Result<(), Fail> {
     assert_eq!(rt; telescopes(&odd, &g), Some(true));
     let f = over(alloc, odd, 1)?;
     assert_eq!(rt; telescopes(&f, &g), None);
+    Ok(())
+}
+
+/// k*(k+2) and k/2.
+#[test]
+fn plain_polynomials_in_canonical_form(rt: HostRuntime) -> Result<(), Fail> {
+    let alloc = rt.alloc();
+    let factor = plus(alloc, Expr::Here, Expr::Num(2))?;
+    let f = Expr::Mul(Box::new(alloc, Expr::Here)?, Box::new(alloc, factor)?);
+    let want = plus(alloc, power(alloc, 2)?, times(alloc, 2, Expr::Here)?)?;
+    let got = plain_form(alloc, &f)?.ok_or("plain")?;
+    assert!(rt; got.same(&want));
+    let half = over(alloc, Expr::Here, 2)?;
+    assert!(rt; plain_form(alloc, &half)?.is_none());
     Ok(())
 }

@@ -2,21 +2,24 @@
 --   plain-sums, plain-prods, plain-start    a plain polynomial has no sums, no products, and starts at the lower limit
 --   over-canonical, form-is                 the canonical tree is built over nothing, and may be printed
 --   closed-plain, canonical-plain           it is a closed form in canonical form, where its polynomial telescopes the summand's
-use Rattle.std.proofs.Common.{◌≡◌, ◌==◌, ℕ, zero, suc, ◌<◌, ℤ, pos, negsuc, neg_ℤ, ◌-ℤ◌, ◌*ℤ◌, ◌<ℤ◌, unsigned_abs, Bool, true, false, cond, List, [], ◌∷◌, ◌++◌, length, map, sym, refl, ap, ap₂, subst, ◌∙◌, arith}
+--   empty-plain                             before the first term it is 0
+use Rattle.std.proofs.Common.{◌≡◌, ◌==◌, ℕ, zero, suc, ◌<◌, ℤ, pos, negsuc, neg_ℤ, ◌-ℤ◌, ◌*ℤ◌, ◌<ℤ◌, unsigned_abs, Bool, true, false, cond, Some, List, [], ◌∷◌, ◌++◌, length, map, sym, refl, ap, ap₂, subst, ◌∙◌, arith}
 use Rattle.std.proofs.lemmas.Int.{ints}
-use Rattle.sg_algebra.proofs.Rational.{whole_value, nat_ne}
+use Rattle.sg_algebra.proofs.Rational.{whole_value, nat_ne, fraction_value-zero}
 use Rattle.sg_algebra.proofs.Solver.{ring, reads}
 use Rattle.sg_algebra.proofs.Value.{Value, ◌+ᵛ◌, ◌*ᵛ◌, ◌/ᵛ◌, inv_value, zero_value}
 use Rattle.sg_algebra.proofs.ValueField.{ValueR, value_quotient, value_product}
 use Rattle.sg_num.proofs.WholeSteps.{whole_value-add, whole_value-mul}
 use Rattle.sg_spec.specs.Canonical.{IsCanonicalOver}
 use Rattle.sg_spec.specs.Closed.{Closed, IsOverOwn}
+use Rattle.sg_spec.specs.Fraction.{whole}
 use Rattle.sg_spec.specs.Generators.{Over, all_sums, all_prods, sums, prods, distinct, start_of}
 use Rattle.sg_spec.specs.Polynomials.{IsPolynomial}
 use Rattle.sg_spec.specs.Printing.{InForm}
 use Rattle.sg_spec.specs.Tree.{Tree, numeral, here, param, add, neg, mul, div, power, sum_from, prod_from}
-use Rattle.sg_spec.specs.Value.{val}
-use Rattle.sg_spec.proofs.Worth.{worth_cong, total_worth}
+use Rattle.sg_spec.specs.Value.{val, SameValue}
+use Rattle.sg_spec.proofs.Values.{val-proper}
+use Rattle.sg_spec.proofs.Worth.{worth_cong, worth_same, total_worth}
 use Rattle.sg_plain.specs.Lowest.{falling_at, IsSummed}
 use Rattle.sg_plain.specs.Plain.{whole_at}
 use Rattle.sg_plain.specs.Terms.{variable_power, monomial, with_term, with_terms, numerator, leads_below_zero, canonical, falling_value}
@@ -194,3 +197,10 @@ module _ (F : ℤ → ℤ) (a : ℤ) (ns : List ℤ) (e : ℤ) (sum : IsSummed F
 
   pub canonical-plain : (t : Tree) → t ≡ canonical ns (unsigned_abs e) → IsCanonicalOver [] [] t
   canonical-plain t form = subst (IsCanonicalOver [] []) (sym form) (canonical-over ns (unsigned_abs e) (positive-size e sum.positive) sum.lowest)
+
+  pub empty-plain : (t : Tree) → t ≡ canonical ns (unsigned_abs e) → SameValue (val t (pos 0) (a -ℤ pos 1)) (Some (whole (pos 0)))
+  empty-plain t form =
+      subst (λ (h : Tree). SameValue (val h (pos 0) (a -ℤ pos 1)) (Some (whole (pos 0)))) (sym form)
+      (worth_same (val (canonical ns d) (pos 0) (a -ℤ pos 1)) (Some (whole (pos 0))) (falling_value ns (whole_value 0 (a -ℤ pos 1)) /ᵛ whole_value 0 (pos d))
+      (val-proper (canonical ns d) (pos 0) (a -ℤ pos 1)) (omega arith) (worth-canonical ns d (a -ℤ pos 1) (positive-size e sum.positive))
+      (fraction_value-zero ∙ sym (none-over (falling_value ns (whole_value 0 (a -ℤ pos 1))) (inv_value (whole_value 0 (pos d))) start)))

@@ -12,3 +12,4 @@ pub mod OneTerm
 pub mod CanonicalOver
 pub mod Closing
 pub mod Checks
+pub mod Written

@@ -5,6 +5,7 @@
 mod closed;
 mod differences;
 mod domain;
+mod forms;
 mod products;
 mod quartic;
 mod reading;
@@ -15,3 +16,4 @@ mod terms;
 pub use closed::closed_form;
 pub use differences::telescopes;
 pub use domain::is_plain;
+pub use forms::plain_form;

@@ -4,7 +4,7 @@ use Rattle.std.specs.Int.{w128, w64}
 use Rattle.sg_expr.specs.Tree.{tree_of}
 use Rattle.sg_plain.specs.Plain.{quartic_at}
 use Rattle.sg_plain.specs.Terms.{canonical}
-use Rattle.sg_plain.proofs.Closing.{closed-plain, canonical-plain, form-is}
+use Rattle.sg_plain.proofs.Closing.{closed-plain, canonical-plain, empty-plain, form-is}
 use Rattle.sg_plain.proofs.closed.plain_sum.Goals as goal
 
 pub returns-clause-closed : goal.returns-clause-closed
@@ -30,3 +30,12 @@ returns-clause-form c =
     let fits-d : FitsSigned w128 c.in_ok-w.w.denominator = search rules in
     let tree = (simp to_z-of_z at c.in_ok-h.ensures) ∙ ap (λ l. canonical l (unsigned_abs c.in_ok-w.w.denominator)) c.as_slice.ensures in
     form-is (tree_of c.in_ok-h.h) c.in_ok-w.w.numbers (unsigned_abs c.in_ok-w.w.denominator) tree
+
+pub returns-clause-empty : goal.returns-clause-empty
+returns-clause-empty c =
+    let fits-d : FitsSigned w128 c.in_ok-w.w.denominator = search rules in
+    let tree = (simp to_z-of_z at c.in_ok-h.ensures) ∙ ap (λ l. canonical l (unsigned_abs c.in_ok-w.w.denominator)) c.as_slice.ensures in
+    let fits : FitsSigned w64 c.args.a = search rules in
+    let sum = simp to_z-of_z at c.in_ok-w.ensures.sum in
+    empty-plain (λ k. quartic_at c.quartic_of-q.result.constant c.quartic_of-q.result.linear c.quartic_of-q.result.square c.quartic_of-q.result.cube c.quartic_of-q.result.fourth k)
+    c.args.a c.in_ok-w.w.numbers c.in_ok-w.w.denominator sum (tree_of c.in_ok-h.h) tree

@@ -56,7 +56,8 @@ list-apart b n ne = record { u = neg_value (inv_value n) ∷ []; w = inv_value n
     constant-term : (b n i : Value 0) → n *ᵛ i ≡ one_value → (neg_value i *ᵛ b +ᵛ zero_value) +ᵛ (i *ᵛ (b +ᵛ n) +ᵛ zero_value) ≡ one_value
     constant-term b n i h = by (ValueR 0) (b ∷ n ∷ i ∷ []) h (search reads depth 20) refl
 
-    go : (i : ℕ) → coef (ValueR 0) ((PolyR (ValueR 0)).◌⊞◌ (poly_mul (ValueR 0) (neg_value (inv_value n) ∷ []) (linear b)) (poly_mul (ValueR 0) (inv_value n ∷ []) (linear (b +ᵛ n)))) i
+    go : (i : ℕ) → coef (ValueR 0) ((PolyR (ValueR 0)).◌⊞◌ (poly_mul (ValueR 0) (neg_value (inv_value n) ∷ []) (linear b)) (poly_mul (ValueR 0)
+        (inv_value n ∷ []) (linear (b +ᵛ n)))) i
         ≡ coef (ValueR 0) (one_value ∷ []) i
     go zero = constant-term b n (inv_value n) unit
     go (suc zero) = ring (ValueR 0) (inv_value n ∷ []) (search reads depth 20) refl
@@ -83,10 +84,12 @@ multiple-zero : (b c : Value 0) (z : Polynomial 0) → poly (linear b) *ᵖ z �
 multiple-zero b c z h =
     sym (at-constant c (neg_value b))
     ∙ sym (eval_cong (ValueR 0) (poly_mul (ValueR 0) (linear b) (list_of z)) (c ∷ []) (neg_value b) (neg_value b) same refl)
-    ∙ eval-mul (ValueR 0) (linear b) (list_of z) (neg_value b) ∙ zero-times (eval (ValueR 0) (linear b) (neg_value b)) (eval (ValueR 0) (list_of z) (neg_value b)) (at-root b)
+    ∙ eval-mul (ValueR 0) (linear b) (list_of z) (neg_value b)
+    ∙ zero-times (eval (ValueR 0) (linear b) (neg_value b)) (eval (ValueR 0) (list_of z) (neg_value b)) (at-root b)
   where
     same : (ListR 0).◌≈◌ (poly_mul (ValueR 0) (linear b) (list_of z)) (c ∷ [])
-    same = same_list (poly_mul (ValueR 0) (linear b) (list_of z)) (c ∷ []) (poly-mul (linear b) (list_of z) ∙ ap (λ x. poly (linear b) *ᵖ x) (poly-list_of z) ∙ h)
+    same = same_list (poly_mul (ValueR 0) (linear b) (list_of z)) (c ∷ []) (poly-mul (linear b) (list_of z)
+        ∙ ap (λ x. poly (linear b) *ᵖ x) (poly-list_of z) ∙ h)
 
 at-next : (b : Value 0) → eval (ValueR 0) (linear b) (one_value +ᵛ neg_value b) ≡ one_value
 at-next b = ring (ValueR 0) (b ∷ []) (search reads depth 20) refl
@@ -126,7 +129,8 @@ module _ (b c : Value 0) (g : Value 1) where
 linear-value : (b : ℤ) → variable 0 +ᵛ whole_value 1 b ≡ whole (poly (linear (whole_value 0 b)))
 linear-value b =
     ap (λ v. variable 0 +ᵛ v) (sym (constant_value-whole 0 b)) ∙ sym (polynomial_value-add 0 (zero_value ∷ one_value ∷ []) (whole_value 0 b ∷ []))
-    ∙ ap (λ v. polynomial_value 0 (v ∷ one_value ∷ [])) (ring (ValueR 0) (whole_value 0 b ∷ []) (search reads depth 16) refl) ∙ sym (whole-poly (linear (whole_value 0 b)))
+    ∙ ap (λ v. polynomial_value 0 (v ∷ one_value ∷ [])) (ring (ValueR 0) (whole_value 0 b ∷ []) (search reads depth 16) refl)
+    ∙ sym (whole-poly (linear (whole_value 0 b)))
 
 cross : (B n g x c : Value 1) → n +ᵛ neg_value g ≡ x → B *ᵛ x ≡ c → B *ᵛ n +ᵛ neg_value (B *ᵛ g) ≡ c
 cross B n g x c h k = by (ValueR 1) (B ∷ n ∷ g ∷ x ∷ c ∷ []) ((ValueR 1).add_cong (scale (ValueR 1) B h) k) (search reads depth 20 fits 4000) refl
@@ -135,7 +139,8 @@ pub no-antidifference : (c b : ℤ) → c ≢ pos 0 → (g : Value 1) → ¬ Tel
 unfolding element_of
 no-antidifference c b n g t =
     n (whole_value_zero 0 c (no-solution (whole_value 0 b) (whole_value 0 c) g
-    (cross (whole (poly (linear (whole_value 0 b)))) (shift_value 0 g) g (whole_value 1 c /ᵛ (variable 0 +ᵛ whole_value 1 b)) (whole (poly (whole_value 0 c ∷ []))) t over)))
+    (cross (whole (poly (linear (whole_value 0 b)))) (shift_value 0 g) g (whole_value 1 c /ᵛ (variable 0 +ᵛ whole_value 1 b)) (whole (poly
+    (whole_value 0 c ∷ []))) t over)))
   where
     over : whole (poly (linear (whole_value 0 b))) *ᵛ (whole_value 1 c /ᵛ (variable 0 +ᵛ whole_value 1 b)) ≡ whole (poly (whole_value 0 c ∷ []))
     over =

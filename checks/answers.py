@@ -2,8 +2,8 @@
 """answers.py PROGRAM [--stack KIB]: runs the built program on the known answers of answers.txt and on the runs that the documents show.
 
 Each answer is a name, the words after `sigma` as a shell reads them, the lines of standard output, and the exit status;
-{text*n} in the words stands for n times the text. A line `$ printf TEXT | sigma ..` gives the program TEXT to read, else
-there is nothing to read. Nothing may go to standard error. A run that README.md or a document shows is such a line and the
+{text*n} stands for n times the text. A line `$ printf TEXT | sigma ..` gives the program TEXT to read, and so do lines `< ..`
+above what each is answered; else there is nothing to read. Nothing may go to standard error. A run that README.md or a document shows is such a line and the
 lines below it. With --stack the program has that much stack. Prints what differs and the
 counts; ends with 1 where something differs.
 """
@@ -13,16 +13,20 @@ import resource
 import shlex
 import subprocess
 import sys
+from itertools import zip_longest
 from pathlib import Path
 
 HERE = Path(__file__).resolve().parent
 ROOT = HERE.parent
 
 
+def written_out(line):
+    return re.sub(r"\{(.*?)\*(\d+)\}", lambda m: m[1] * int(m[2]), line)
+
+
 def words_of(line):
     """The words after `sigma`, and the bytes to be read."""
-    text = re.sub(r"\{(.*?)\*(\d+)\}", lambda m: m[1] * int(m[2]), line)
-    words, given = shlex.split(text), b""
+    words, given = shlex.split(written_out(line)), b""
     if words[0] == "printf":
         assert words[2:4] == ["|", "sigma"], line
         given, words = words[1].replace("\\n", "\n").encode(), words[3:]
@@ -37,7 +41,10 @@ def known(path):
         name, *rows = block.splitlines()
         rows = [row.removeprefix("    ") for row in rows]
         assert rows[0].startswith("$ ") and rows[-1].startswith("status "), name
-        yield name, words_of(rows[0].removeprefix("$ ")), rows[1:-1], int(rows[-1].split()[1])
+        words, given = words_of(rows[0].removeprefix("$ "))
+        given += b"".join(written_out(row[2:]).encode() + b"\n" for row in rows[1:-1] if row.startswith("< "))
+        told = [row for row in rows[1:-1] if not row.startswith("< ")]
+        yield name, (words, given), told, int(rows[-1].split()[1])
 
 
 def shown(path):
@@ -65,7 +72,9 @@ def differs(program, words, given, lines, status, stack):
     written, told = run.stdout.decode(errors="replace"), run.stderr.decode(errors="replace")
     wanted = "".join(line + "\n" for line in lines)
     if written != wanted:
-        return f"wrote {written[:200]!r}, wanted {wanted[:200]!r}"
+        pairs = enumerate(zip_longest(written.split("\n"), wanted.split("\n")), 1)
+        at, (ours, theirs) = next((at, pair) for at, pair in pairs if pair[0] != pair[1])
+        return f"line {at}: wrote {(ours or '')[:200]!r}, wanted {(theirs or '')[:200]!r}"
     if status is not None and run.returncode != status:
         return f"ended with {run.returncode}, wanted {status}"
     if told:

@@ -3,15 +3,20 @@
 
 A quotation is an indented block below a line that ends with the name of a file and a colon, as "crates/x/specs/Y.antt:";
 its lines stand in that file, one after the other, and a line ".." leaves some out. The table of docs/theorem.md has just the
-files that hold the definitions which the clause of `sigma` comes down to: --table prints it, and --write puts it in.
+files that hold the definitions which the clause of `sigma` comes down to: --table prints it. The picture of the layers and the table
+of crates in docs/MAINTAINING.md are those of crates.txt (layers.py), and no file names a crate that isn't there. --write puts the
+table of files and the picture in.
 """
 import re
 import sys
 from pathlib import Path
 
+import layers
+
 ROOT = Path(__file__).resolve().parent.parent
 HEADLINE = ROOT / "crates/sg_top/src/top.rt"
 THEOREM = ROOT / "docs/theorem.md"
+NAMING = ["crates.txt", "docs/**/*.md", "bench/*", "checks/*", "crates/*/src/**/*.rt", "crates/*/*/**/*.antt"]
 
 
 def indent(line):
@@ -165,12 +170,28 @@ def write():
     THEOREM.write_text("\n".join(lines[:head] + table() + lines[end:]) + "\n")
 
 
+# ---- Names of crates
+
+
+def strangers():
+    """Each name of a crate, in documents, scripts, code and proofs, that crates.txt doesn't have."""
+    there = {name for _, crates in layers.groups() for name in crates}
+    for path in [ROOT / "README.md", *(path for end in NAMING for path in sorted(ROOT.glob(end)))]:
+        if not path.is_file():
+            continue
+        for at, line in enumerate(path.read_text().splitlines()):
+            for name in re.findall(r"\bsg_[a-z_]+", line):
+                if name not in there:
+                    yield f"{path.relative_to(ROOT)}:{at + 1}: there is no crate {name}"
+
+
 def main():
     if "--table" in sys.argv:
         print("\n".join(table()))
         return 0
     if "--write" in sys.argv:
         write()
+        layers.write()
         return 0
     faults, count = [], 0
     for path in [ROOT / "README.md", *sorted(ROOT.glob("docs/**/*.md"))]:
@@ -181,6 +202,7 @@ def main():
                 faults.append(f"{path.relative_to(ROOT)}:{at}: {file.relative_to(ROOT)}: {fault}")
     rows = [line for line in THEOREM.read_text().splitlines() if line.startswith(("| sg_", "| all |"))]
     faults += [f"docs/theorem.md: the table of files has or lacks {row}" for row in sorted(set(rows) ^ set(table()))]
+    faults += [*layers.faults(), *strangers()]
     for fault in faults:
         print(fault)
     print(f"documents: {count} quotations, {len(faults)} faults")

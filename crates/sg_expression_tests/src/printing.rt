@@ -1,7 +1,7 @@
 ghost use Rattle.std.specs.Prelude.{◌<◌};
 
-use sg_num::{Rat, Row};
-use sg_text::{Bounds, ReadFault, print, print_rat, read};
+use sg_num::Row;
+use sg_text::{Bounds, ReadFault, print, read};
 use std::alloc::{AllocError, Global};
 use std::test::Fail;
 
@@ -161,24 +161,5 @@ fn drawn_texts_read_back(rt: HostRuntime) -> Result<(), Fail> {
         }
     }
     assert!(rt; read > 300, "{read} texts were read");
-    Ok(())
-}
-
-#[test]
-fn prints_fractions(rt: HostRuntime) -> Result<(), Fail> {
-    let alloc = rt.alloc();
-    for (num, den, want) in [
-        (0, 1, "0"),
-        (-7, 1, "-7"),
-        (-3, 2, "-3/2"),
-        (6, -4, "-3/2"),
-        (i128::MIN, 3, "-170141183460469231731687303715884105728/3"),
-    ] {
-        let text = match Rat::new(num, den) {
-            Some(r) => print_rat(alloc, r)?,
-            None => Row::new(alloc),
-        };
-        assert!(rt; text.as_slice() == want.as_bytes(), "{want}");
-    }
     Ok(())
 }

@@ -35,7 +35,7 @@ const MOST_BYTES: usize = 4096;
 /// The most bytes that are read at once.
 const PIECE: usize = 4096;
 
-/// All bytes of a source whose lines fit a batch. No read follows the one with the first byte by which they don't.
+/// All bytes of a source whose lines fit a batch. Else nothing is read past the buffer with the first byte that is too much.
 pub fn read_whole<S: Source>(alloc: Global, source: &mut S) -> Result<Vec<u8>, Unread>
     ensures whole { IfOk result (λ bytes. IsWhole (S.remaining source.old) (S.remaining source.new) bytes.items) }
     ensures unread { IfErr result (λ why. IsUnread why (S.remaining source.old) (S.remaining source.new) (S.fault_count source.old) (S.fault_count source.new)) }

@@ -3,6 +3,7 @@ ghost use Rattle.sg_parts.specs.Planes.{row_size, entry, moved, row_product, Sam
 
 use crate::line::Line;
 use crate::roots::sum;
+use sg_num::length_of;
 use std::alloc::{AllocError, Global};
 
 // Adds the product of both lists.

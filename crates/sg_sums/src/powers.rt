@@ -13,7 +13,7 @@ use crate::constants::all_solutions;
 use crate::partial::Partial;
 use crate::poly1::Poly1;
 use crate::polys::{added, behind, coefficient, joined, low_difference, monomial, scaled, times};
-use sg_matrix::{Solution, constant, plus_constants};
+use sg_matrix::{Solution, constant, plus_constants, unit_row};
 use sg_num::{Field, Row, Stop};
 use sg_tower::Tower;
 use std::alloc::Global;

@@ -1,0 +1,15 @@
+pub mod InverseValues
+pub mod AtParameters
+pub mod ElementsOver
+pub mod ZeroPast
+pub mod Combinations
+pub mod Combined
+pub mod NoRecurrences
+pub mod Meeting
+pub mod Answers
+pub mod Relating
+pub mod Matching
+pub mod OwnProducts
+pub mod Texts
+pub mod WholeCoefficients
+pub mod NoneToOrder

@@ -1,0 +1,3 @@
+pub mod Recurrences
+pub mod Matches
+pub mod Answers

@@ -1,0 +1,6 @@
+pub mod Exactly
+pub mod FreeInValues
+pub mod Walking
+mod ProductExamples
+mod NoneForFactorial
+mod NoRecurrenceForBinomial

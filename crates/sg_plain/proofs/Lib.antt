@@ -1,0 +1,15 @@
+pub mod Bounds
+pub mod Caps
+pub mod Coefficients
+pub mod Interpolation
+pub mod Sizes
+pub mod Sums
+pub mod Lowest
+pub mod SumTerms
+pub mod Wholes
+pub mod Canonical
+pub mod OneTerm
+pub mod CanonicalOver
+pub mod Closing
+pub mod Checks
+pub mod Written

@@ -1,0 +1,4 @@
+pub mod Plain
+pub mod Sums
+pub mod Lowest
+pub mod Terms

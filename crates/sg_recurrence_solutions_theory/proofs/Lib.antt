@@ -1,0 +1,3 @@
+pub mod Orders
+pub mod Unrolling
+pub mod Denominators

@@ -1,0 +1,2 @@
+pub mod FreeOver
+pub mod OneList

@@ -68,16 +68,22 @@ module _ (b : ℕ) (some : 1 ≤ b) where
   value-light (add x y) k h p =
       let s : unsigned_abs (whole_at x k +ℤ whole_at y k) ≤ unsigned_abs (whole_at x k) + unsigned_abs (whole_at y k) = abs-sum (whole_at x k) (whole_at y k) in
       let t : unsigned_abs (whole_at x k) + unsigned_abs (whole_at y k) ≤ (weight x + weight y) * b ^ max (degrees x).variable (degrees y).variable =
-      sum-bound (unsigned_abs (whole_at x k)) (unsigned_abs (whole_at y k)) (weight x) (weight y) (b ^ (degrees x).variable) (b ^ (degrees y).variable) (b ^ max (degrees x).variable (degrees y).variable)
+      sum-bound (unsigned_abs (whole_at x k)) (unsigned_abs (whole_at y k)) (weight x) (weight y) (b ^ (degrees x).variable) (b ^
+      (degrees y).variable) (b ^ max (degrees x).variable (degrees y).variable)
       (value-light x k h p.0) (value-light y k h p.1) (pow-le-pow_right some (omega arith)) (pow-le-pow_right some (omega arith)) in
       omega arith
-  value-light (neg x) k h p = let e : unsigned_abs (neg_ℤ (whole_at x k)) ≡ unsigned_abs (whole_at x k) = abs-opposite (whole_at x k) in let i : unsigned_abs (whole_at x k) ≤ weight x * b ^ (degrees x).variable = value-light x k h p in omega arith
+  value-light (neg x) k h p = let e : unsigned_abs (neg_ℤ (whole_at x k)) ≡ unsigned_abs (whole_at x k) = abs-opposite
+      (whole_at x k) in let i : unsigned_abs (whole_at x k) ≤ weight x * b ^ (degrees x).variable = value-light x k h p in omega arith
   value-light (mul x y) k h p =
-      let e : unsigned_abs (whole_at x k *ℤ whole_at y k) ≡ unsigned_abs (whole_at x k) * unsigned_abs (whole_at y k) = unsigned_abs-mul (whole_at x k) (whole_at y k) in
-      let f : unsigned_abs (whole_at x k) * unsigned_abs (whole_at y k) ≤ (weight x * b ^ (degrees x).variable) * (weight y * b ^ (degrees y).variable) = mul-le-mul (value-light x k h p.0) (value-light y k h p.1) in
-      let g : (weight x * b ^ (degrees x).variable) * (weight y * b ^ (degrees y).variable) ≡ (weight x * weight y) * (b ^ (degrees x).variable * b ^ (degrees y).variable) =
+      let e : unsigned_abs (whole_at x k *ℤ whole_at y k) ≡ unsigned_abs (whole_at x k) * unsigned_abs (whole_at y k) = unsigned_abs-mul
+      (whole_at x k) (whole_at y k) in
+      let f : unsigned_abs (whole_at x k) * unsigned_abs (whole_at y k) ≤ (weight x * b ^ (degrees x).variable) * (weight y * b ^
+      (degrees y).variable) = mul-le-mul (value-light x k h p.0) (value-light y k h p.1) in
+      let g : (weight x * b ^ (degrees x).variable) * (weight y * b ^ (degrees y).variable) ≡ (weight x * weight y) * (b ^
+      (degrees x).variable * b ^ (degrees y).variable) =
       product-shape (weight x) (weight y) (b ^ (degrees x).variable) (b ^ (degrees y).variable) in
-      let i : b ^ ((degrees x).variable + (degrees y).variable) ≡ b ^ (degrees x).variable * b ^ (degrees y).variable = pow-add b (degrees x).variable (degrees y).variable in
+      let i : b ^ ((degrees x).variable + (degrees y).variable) ≡ b ^ (degrees x).variable * b ^ (degrees y).variable = pow-add b
+      (degrees x).variable (degrees y).variable in
       rw (i, e) (omega (arith, f, g))
   value-light (div x y) k h p = absurd p
   value-light (power x e) k h p =
@@ -90,7 +96,8 @@ module _ (b : ℕ) (some : 1 ≤ b) where
   value-light (prod_from from body) k h p = absurd p
 
 -- at whole numbers of size at most 5
-pub value-small : (t : Tree) (k : ℤ) → unsigned_abs k ≤ 5 → IsPolynomial t → (degrees t).variable ≤ 4 → weight t ≤ 65536 → unsigned_abs (whole_at t k) ≤ 67108864
+pub value-small : (t : Tree) (k : ℤ) → unsigned_abs k ≤ 5 → IsPolynomial t → (degrees t).variable ≤ 4 → weight t ≤ 65536
+    → unsigned_abs (whole_at t k) ≤ 67108864
 value-small t k h p d w =
     let l : unsigned_abs (whole_at t k) ≤ weight t * 5 ^ (degrees t).variable = value-light 5 (omega arith) t k h p in
     let m : 5 ^ (degrees t).variable ≤ 5 ^ 4 = pow-le-pow_right (omega arith) d in
@@ -101,16 +108,19 @@ value-small t k h p d w =
     small u v h k = omega arith
 
 -- the powers of the base of such a power, up to the exponent
-pub power-small : (x : Tree) (e i : ℕ) (k : ℤ) → unsigned_abs k ≤ 5 → IsPolynomial x → (degrees x).variable * e ≤ 4 → weight x ^ e ≤ 65536 → i ≤ e → unsigned_abs (pow ℤR (whole_at x k) i) ≤ 67108864
+pub power-small : (x : Tree) (e i : ℕ) (k : ℤ) → unsigned_abs k ≤ 5 → IsPolynomial x → (degrees x).variable * e ≤ 4 → weight x ^ e ≤ 65536 → i ≤ e
+    → unsigned_abs (pow ℤR (whole_at x k) i) ≤ 67108864
 power-small x e i k h p d w l =
     let a : unsigned_abs (pow ℤR (whole_at x k) i) ≡ unsigned_abs (whole_at x k) ^ i = abs-power (whole_at x k) i in
     let b : unsigned_abs (whole_at x k) ^ i ≤ (weight x * 5 ^ (degrees x).variable) ^ i = pow-le-pow_left (value-light 5 (omega arith) x k h p) i in
-    let c : (weight x * 5 ^ (degrees x).variable) ^ i ≤ (weight x * 5 ^ (degrees x).variable) ^ e = pow-le-pow_right (one-le-mul (weight_positive x) (one-le-pow (degrees x).variable 5 (omega arith))) l in
+    let c : (weight x * 5 ^ (degrees x).variable) ^ i ≤ (weight x * 5 ^ (degrees x).variable) ^ e = pow-le-pow_right (one-le-mul (weight_positive x)
+    (one-le-pow (degrees x).variable 5 (omega arith))) l in
     let f : (weight x * 5 ^ (degrees x).variable) ^ e ≡ weight x ^ e * (5 ^ (degrees x).variable) ^ e = mul-pow (weight x) (5 ^ (degrees x).variable) e in
     let g : 5 ^ ((degrees x).variable * e) ≡ (5 ^ (degrees x).variable) ^ e = pow-times 5 (degrees x).variable e in
     let m : 5 ^ ((degrees x).variable * e) ≤ 5 ^ 4 = pow-le-pow_right (omega arith) d in
     let n : weight x ^ e * 5 ^ ((degrees x).variable * e) ≤ 65536 * 5 ^ 4 = mul-le-mul w m in
-    small (unsigned_abs (pow ℤR (whole_at x k) i)) (unsigned_abs (whole_at x k) ^ i) ((weight x * 5 ^ (degrees x).variable) ^ i) ((weight x * 5 ^ (degrees x).variable) ^ e) (weight x ^ e * (5 ^ (degrees x).variable) ^ e)
+    small (unsigned_abs (pow ℤR (whole_at x k) i)) (unsigned_abs (whole_at x k) ^ i) ((weight x * 5 ^ (degrees x).variable) ^ i) ((weight x * 5 ^
+    (degrees x).variable) ^ e) (weight x ^ e * (5 ^ (degrees x).variable) ^ e)
     a b c f (subst (λ (n : ℕ). weight x ^ e * n ≤ 65536 * 5 ^ 4) g n)
   where
     small : (u v w t s : ℕ) → u ≡ v → v ≤ w → w ≤ t → t ≡ s → s ≤ 65536 * 5 ^ 4 → u ≤ 67108864
@@ -151,7 +161,8 @@ plain-power x (suc e) n p =
 pub small-value : (t : Tree) (k v : ℤ) → IsPlain t → unsigned_abs k ≤ 5 → v ≡ whole_at t k → unsigned_abs v ≤ 67108864
 small-value t k v p h e = subst (λ z. unsigned_abs z ≤ 67108864) (sym e) (value-small t k h p.0 p.1 p.2)
 
-pub small-powers : (x : Tree) (e : ℕ) (k v : ℤ) → IsPlain (power x e) → unsigned_abs k ≤ 5 → v ≡ whole_at x k → (i : ℕ) → i ≤ e → unsigned_abs (pow ℤR v i) ≤ 67108864
+pub small-powers : (x : Tree) (e : ℕ) (k v : ℤ) → IsPlain (power x e) → unsigned_abs k ≤ 5 → v ≡ whole_at x k → (i : ℕ) → i ≤ e
+    → unsigned_abs (pow ℤR v i) ≤ 67108864
 small-powers x e k v p h f = λ i j. subst (λ z. unsigned_abs (pow ℤR z i) ≤ 67108864) (sym f) (power-small x e i k h p.0 p.1 p.2 j)
 
 -- ---- Powers by squarings

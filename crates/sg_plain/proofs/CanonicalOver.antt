@@ -20,7 +20,8 @@ number-divisor : (d : Value 0) → ¬ (d ≡ zero_value) → (c : List (List (Va
 number-divisor d n c h =
     let unit = dvd_trans S c ((d ∷ []) ∷ []) S.I h (record {
       cofactor = constants.on (inv_value d);
-      is = S.trans (S.symm constants.on-one) (S.trans (constants.on_cong one_value (d *ᵛ inv_value d) (sym (value_mul-inv 0 d n))) (constants.on-mul d (inv_value d)));
+      is = S.trans (S.symm constants.on-one) (S.trans (constants.on_cong one_value (d *ᵛ inv_value d) (sym (value_mul-inv 0 d n)))
+          (constants.on-mul d (inv_value d)));
     }) in
     unit-number c unit.cofactor (S.symm unit.is)
 
@@ -37,13 +38,21 @@ lowest-over c cs d n e = record {
 }
 
 some-over : (c : ℤ) (cs : List ℤ) (d : ℕ) → c ≢ pos 0 → common_divisor (c ∷ cs) (suc d) ≡ 1 → IsCanonicalOver [] [] (canonical (c ∷ cs) (suc d))
-some-over c cs d n e = record { terms = only (c ∷ cs) (suc d) ∷ []; sized = ((refl, refl), tt); descending = tt; lowest = (lowest-over c cs d n e, tt); form = one-term (c ∷ cs) d }
+some-over c cs d n e = record {
+  terms = only (c ∷ cs) (suc d) ∷ [];
+  sized = ((refl, refl), tt);
+  descending = tt;
+  lowest =
+      (lowest-over c cs d n e, tt);
+  form = one-term (c ∷ cs) d;
+}
 
 -- coefficients 0 above the others aren't written
 over-number : (cs : List ℤ) (d : ℕ) → common_divisor cs (suc d) ≡ 1 → IsCanonicalOver [] [] (canonical cs (suc d))
 over-number [] zero e = record { terms = []; sized = tt; descending = tt; lowest = tt; form = refl }
 over-number [] (suc d) e = absurd (omega (arith, e))
-over-number (pos zero ∷ cs) d e = over-number cs d (gcd_from_IsGcd 0 (common_divisor cs (suc d)) (common_divisor cs (suc d)) (IsGcd-swap (common_divisor cs (suc d)) 0 (common_divisor cs (suc d)) (IsGcd-from_zero (common_divisor cs (suc d)) 0 refl)) ∙ e)
+over-number (pos zero ∷ cs) d e = over-number cs d (gcd_from_IsGcd 0 (common_divisor cs (suc d)) (common_divisor cs (suc d)) (IsGcd-swap
+    (common_divisor cs (suc d)) 0 (common_divisor cs (suc d)) (IsGcd-from_zero (common_divisor cs (suc d)) 0 refl)) ∙ e)
 over-number (pos (suc c) ∷ cs) d e = some-over (pos (suc c)) cs d (λ z. cc) e
 over-number (negsuc c ∷ cs) d e = some-over (negsuc c) cs d (λ z. cc) e
 

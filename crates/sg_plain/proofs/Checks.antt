@@ -25,13 +25,16 @@ use Rattle.sg_plain.proofs.Wholes.{whole_value-sub, worth-whole_at}
 
 -- ---- Five points in a row
 
-fourth-difference : (a b c d e k : ℤ) → quartic_at a b c d e (k +ℤ pos 4) +ℤ pos 6 *ℤ quartic_at a b c d e (k +ℤ pos 2) +ℤ quartic_at a b c d e k -ℤ pos 4 *ℤ quartic_at a b c d e (k +ℤ pos 3) -ℤ pos 4 *ℤ quartic_at a b c d e (k +ℤ pos 1) ≡ pos 24 *ℤ e
+fourth-difference : (a b c d e k : ℤ) → quartic_at a b c d e (k +ℤ pos 4) +ℤ pos 6 *ℤ quartic_at a b c d e
+    (k +ℤ pos 2) +ℤ quartic_at a b c d e k -ℤ pos 4 *ℤ quartic_at a b c d e (k +ℤ pos 3) -ℤ pos 4 *ℤ quartic_at a b c d e (k +ℤ pos 1) ≡ pos 24 *ℤ e
 fourth-difference a b c d e k = ring ℤR (a ∷ b ∷ c ∷ d ∷ e ∷ k ∷ []) (search readsℤ depth 40 fits 40000) refl
 
-third-difference : (a b c d k : ℤ) → quartic_at a b c d (pos 0) (k +ℤ pos 3) +ℤ pos 3 *ℤ quartic_at a b c d (pos 0) (k +ℤ pos 1) -ℤ pos 3 *ℤ quartic_at a b c d (pos 0) (k +ℤ pos 2) -ℤ quartic_at a b c d (pos 0) k ≡ pos 6 *ℤ d
+third-difference : (a b c d k : ℤ) → quartic_at a b c d (pos 0) (k +ℤ pos 3) +ℤ pos 3 *ℤ quartic_at a b c d (pos 0)
+    (k +ℤ pos 1) -ℤ pos 3 *ℤ quartic_at a b c d (pos 0) (k +ℤ pos 2) -ℤ quartic_at a b c d (pos 0) k ≡ pos 6 *ℤ d
 third-difference a b c d k = ring ℤR (a ∷ b ∷ c ∷ d ∷ k ∷ []) (search readsℤ depth 40 fits 40000) refl
 
-second-difference : (a b c k : ℤ) → quartic_at a b c (pos 0) (pos 0) (k +ℤ pos 2) +ℤ quartic_at a b c (pos 0) (pos 0) k -ℤ pos 2 *ℤ quartic_at a b c (pos 0) (pos 0) (k +ℤ pos 1) ≡ pos 2 *ℤ c
+second-difference : (a b c k : ℤ) → quartic_at a b c (pos 0) (pos 0) (k +ℤ pos 2) +ℤ quartic_at a b c (pos 0) (pos 0) k -ℤ pos 2 *ℤ quartic_at a b c
+    (pos 0) (pos 0) (k +ℤ pos 1) ≡ pos 2 *ℤ c
 second-difference a b c k = ring ℤR (a ∷ b ∷ c ∷ k ∷ []) (search readsℤ depth 40 fits 40000) refl
 
 first-difference : (a b k : ℤ) → quartic_at a b (pos 0) (pos 0) (pos 0) (k +ℤ pos 1) -ℤ quartic_at a b (pos 0) (pos 0) (pos 0) k ≡ b
@@ -40,7 +43,8 @@ first-difference a b k = ring ℤR (a ∷ b ∷ k ∷ []) (search readsℤ depth
 constant : (a k : ℤ) → quartic_at a (pos 0) (pos 0) (pos 0) (pos 0) k ≡ a
 constant a k = ring ℤR (a ∷ k ∷ []) (search readsℤ depth 40 fits 40000) refl
 
-zero-24 : (u v w x y e : ℤ) → u ≡ pos 0 → v ≡ pos 0 → w ≡ pos 0 → x ≡ pos 0 → y ≡ pos 0 → y +ℤ pos 6 *ℤ w +ℤ u -ℤ pos 4 *ℤ x -ℤ pos 4 *ℤ v ≡ pos 24 *ℤ e → e ≡ pos 0
+zero-24 : (u v w x y e : ℤ) → u ≡ pos 0 → v ≡ pos 0 → w ≡ pos 0 → x ≡ pos 0 → y ≡ pos 0
+    → y +ℤ pos 6 *ℤ w +ℤ u -ℤ pos 4 *ℤ x -ℤ pos 4 *ℤ v ≡ pos 24 *ℤ e → e ≡ pos 0
 zero-24 u v w x y e hu hv hw hx hy h = omega (arith, ints)
 
 zero-6 : (u v w x d : ℤ) → u ≡ pos 0 → v ≡ pos 0 → w ≡ pos 0 → x ≡ pos 0 → x +ℤ pos 3 *ℤ v -ℤ pos 3 *ℤ w -ℤ u ≡ pos 6 *ℤ d → d ≡ pos 0
@@ -59,16 +63,24 @@ pub record AreZero (a b c d e : ℤ) : Type 0 where
   pub cube : d ≡ pos 0
   pub fourth : e ≡ pos 0
 
-pub none-zero : (a b c d e k : ℤ) → quartic_at a b c d e k ≡ pos 0 → quartic_at a b c d e (k +ℤ pos 1) ≡ pos 0 → quartic_at a b c d e (k +ℤ pos 2) ≡ pos 0 → quartic_at a b c d e (k +ℤ pos 3) ≡ pos 0
+pub none-zero : (a b c d e k : ℤ) → quartic_at a b c d e k ≡ pos 0 → quartic_at a b c d e (k +ℤ pos 1) ≡ pos 0
+    → quartic_at a b c d e (k +ℤ pos 2) ≡ pos 0 → quartic_at a b c d e (k +ℤ pos 3) ≡ pos 0
     → quartic_at a b c d e (k +ℤ pos 4) ≡ pos 0 → AreZero a b c d e
 none-zero a b c d e k hu hv hw hx hy =
-    let he : e ≡ pos 0 = zero-24 (quartic_at a b c d e k) (quartic_at a b c d e (k +ℤ pos 1)) (quartic_at a b c d e (k +ℤ pos 2)) (quartic_at a b c d e (k +ℤ pos 3)) (quartic_at a b c d e (k +ℤ pos 4)) e hu hv hw hx hy (fourth-difference a b c d e k) in
+    let he : e ≡ pos 0 = zero-24 (quartic_at a b c d e k) (quartic_at a b c d e (k +ℤ pos 1)) (quartic_at a b c d e (k +ℤ pos 2))
+    (quartic_at a b c d e (k +ℤ pos 3)) (quartic_at a b c d e (k +ℤ pos 4)) e hu hv hw hx hy (fourth-difference a b c d e k) in
     let at3 : (m : ℤ) → quartic_at a b c d e m ≡ pos 0 → quartic_at a b c d (pos 0) m ≡ pos 0 = λ m h. subst (λ z. quartic_at a b c d z m ≡ pos 0) he h in
-    let hd : d ≡ pos 0 = zero-6 (quartic_at a b c d (pos 0) k) (quartic_at a b c d (pos 0) (k +ℤ pos 1)) (quartic_at a b c d (pos 0) (k +ℤ pos 2)) (quartic_at a b c d (pos 0) (k +ℤ pos 3)) d (at3 k hu) (at3 (k +ℤ pos 1) hv) (at3 (k +ℤ pos 2) hw) (at3 (k +ℤ pos 3) hx) (third-difference a b c d k) in
-    let at2 : (m : ℤ) → quartic_at a b c d e m ≡ pos 0 → quartic_at a b c (pos 0) (pos 0) m ≡ pos 0 = λ m h. subst (λ z. quartic_at a b c z (pos 0) m ≡ pos 0) hd (at3 m h) in
-    let hc : c ≡ pos 0 = zero-2 (quartic_at a b c (pos 0) (pos 0) k) (quartic_at a b c (pos 0) (pos 0) (k +ℤ pos 1)) (quartic_at a b c (pos 0) (pos 0) (k +ℤ pos 2)) c (at2 k hu) (at2 (k +ℤ pos 1) hv) (at2 (k +ℤ pos 2) hw) (second-difference a b c k) in
-    let at1 : (m : ℤ) → quartic_at a b c d e m ≡ pos 0 → quartic_at a b (pos 0) (pos 0) (pos 0) m ≡ pos 0 = λ m h. subst (λ z. quartic_at a b z (pos 0) (pos 0) m ≡ pos 0) hc (at2 m h) in
-    let hb : b ≡ pos 0 = zero-1 (quartic_at a b (pos 0) (pos 0) (pos 0) k) (quartic_at a b (pos 0) (pos 0) (pos 0) (k +ℤ pos 1)) b (at1 k hu) (at1 (k +ℤ pos 1) hv) (first-difference a b k) in
+    let hd : d ≡ pos 0 = zero-6 (quartic_at a b c d (pos 0) k) (quartic_at a b c d (pos 0) (k +ℤ pos 1)) (quartic_at a b c d (pos 0) (k +ℤ pos 2))
+    (quartic_at a b c d (pos 0) (k +ℤ pos 3)) d (at3 k hu) (at3 (k +ℤ pos 1) hv) (at3 (k +ℤ pos 2) hw) (at3 (k +ℤ pos 3) hx)
+    (third-difference a b c d k) in
+    let at2 : (m : ℤ) → quartic_at a b c d e m ≡ pos 0
+    → quartic_at a b c (pos 0) (pos 0) m ≡ pos 0 = λ m h. subst (λ z. quartic_at a b c z (pos 0) m ≡ pos 0) hd (at3 m h) in
+    let hc : c ≡ pos 0 = zero-2 (quartic_at a b c (pos 0) (pos 0) k) (quartic_at a b c (pos 0) (pos 0) (k +ℤ pos 1)) (quartic_at a b c (pos 0)
+    (pos 0) (k +ℤ pos 2)) c (at2 k hu) (at2 (k +ℤ pos 1) hv) (at2 (k +ℤ pos 2) hw) (second-difference a b c k) in
+    let at1 : (m : ℤ) → quartic_at a b c d e m ≡ pos 0
+    → quartic_at a b (pos 0) (pos 0) (pos 0) m ≡ pos 0 = λ m h. subst (λ z. quartic_at a b z (pos 0) (pos 0) m ≡ pos 0) hc (at2 m h) in
+    let hb : b ≡ pos 0 = zero-1 (quartic_at a b (pos 0) (pos 0) (pos 0) k) (quartic_at a b (pos 0) (pos 0) (pos 0) (k +ℤ pos 1)) b (at1 k hu) (at1
+    (k +ℤ pos 1) hv) (first-difference a b k) in
     let ha : a ≡ pos 0 = sym (constant a k) ∙ subst (λ z. quartic_at a z (pos 0) (pos 0) (pos 0) k ≡ pos 0) hb (at1 k hu) in
     record { constant = ha; linear = hb; square = hc; cube = hd; fourth = he }
 
@@ -95,21 +107,39 @@ lacks : (a b c d e p q r s t k : ℤ) → (quartic_at p q r s t (k +ℤ pos 1) -
 lacks a b c d e p q r s t k = ring ℤR (a ∷ b ∷ c ∷ d ∷ e ∷ p ∷ q ∷ r ∷ s ∷ t ∷ k ∷ []) (search readsℤ depth 60 fits 60000) refl
 
 abbrev pub AreLacking : (a b c d e p q r s t : ℤ) → Type 0
-AreLacking a b c d e p q r s t = AreZero (q +ℤ r +ℤ s +ℤ t -ℤ a) (pos 2 *ℤ r +ℤ pos 3 *ℤ s +ℤ pos 4 *ℤ t -ℤ b) (pos 3 *ℤ s +ℤ pos 6 *ℤ t -ℤ c) (pos 4 *ℤ t -ℤ d) (neg_ℤ e)
+AreLacking a b c d e p q r s t = AreZero (q +ℤ r +ℤ s +ℤ t -ℤ a) (pos 2 *ℤ r +ℤ pos 3 *ℤ s +ℤ pos 4 *ℤ t -ℤ b) (pos 3 *ℤ s +ℤ pos 6 *ℤ t -ℤ c)
+    (pos 4 *ℤ t -ℤ d) (neg_ℤ e)
 
 pub lacking-none : (a b c d e p q r s t : ℤ) → IsDifference a b c d e (p ∷ q ∷ r ∷ s ∷ t ∷ []) → AreLacking a b c d e p q r s t
 lacking-none a b c d e p q r s t h = go h.constant h.linear h.square h.cube h.fourth
   where
-    go : pos 0 *ℤ p +ℤ (pos 1 *ℤ q +ℤ (pos 1 *ℤ r +ℤ (pos 1 *ℤ s +ℤ (pos 1 *ℤ t +ℤ pos 0)))) ≡ a → pos 0 *ℤ p +ℤ (pos 0 *ℤ q +ℤ (pos 2 *ℤ r +ℤ (pos 3 *ℤ s +ℤ (pos 4 *ℤ t +ℤ pos 0)))) ≡ b
-        → pos 0 *ℤ p +ℤ (pos 0 *ℤ q +ℤ (pos 0 *ℤ r +ℤ (pos 3 *ℤ s +ℤ (pos 6 *ℤ t +ℤ pos 0)))) ≡ c → pos 0 *ℤ p +ℤ (pos 0 *ℤ q +ℤ (pos 0 *ℤ r +ℤ (pos 0 *ℤ s +ℤ (pos 4 *ℤ t +ℤ pos 0)))) ≡ d → e ≡ pos 0 → AreLacking a b c d e p q r s t
-    go ha hb hc hd he = record { constant = omega (arith, ints); linear = omega (arith, ints); square = omega (arith, ints); cube = omega (arith, ints); fourth = omega (arith, ints) }
+    go : pos 0 *ℤ p +ℤ (pos 1 *ℤ q +ℤ (pos 1 *ℤ r +ℤ (pos 1 *ℤ s +ℤ (pos 1 *ℤ t +ℤ pos 0)))) ≡ a
+        → pos 0 *ℤ p +ℤ (pos 0 *ℤ q +ℤ (pos 2 *ℤ r +ℤ (pos 3 *ℤ s +ℤ (pos 4 *ℤ t +ℤ pos 0)))) ≡ b
+        → pos 0 *ℤ p +ℤ (pos 0 *ℤ q +ℤ (pos 0 *ℤ r +ℤ (pos 3 *ℤ s +ℤ (pos 6 *ℤ t +ℤ pos 0)))) ≡ c
+        → pos 0 *ℤ p +ℤ (pos 0 *ℤ q +ℤ (pos 0 *ℤ r +ℤ (pos 0 *ℤ s +ℤ (pos 4 *ℤ t +ℤ pos 0)))) ≡ d → e ≡ pos 0 → AreLacking a b c d e p q r s t
+    go ha hb hc hd he = record {
+      constant = omega (arith, ints);
+      linear = omega (arith, ints);
+      square = omega (arith, ints);
+      cube = omega
+          (arith, ints);
+      fourth = omega (arith, ints);
+    }
 
 pub none-lacking : (a b c d e p q r s t : ℤ) → AreLacking a b c d e p q r s t → IsDifference a b c d e (p ∷ q ∷ r ∷ s ∷ t ∷ [])
 none-lacking a b c d e p q r s t h = go h.constant h.linear h.square h.cube h.fourth
   where
-    go : q +ℤ r +ℤ s +ℤ t -ℤ a ≡ pos 0 → pos 2 *ℤ r +ℤ pos 3 *ℤ s +ℤ pos 4 *ℤ t -ℤ b ≡ pos 0 → pos 3 *ℤ s +ℤ pos 6 *ℤ t -ℤ c ≡ pos 0 → pos 4 *ℤ t -ℤ d ≡ pos 0 → neg_ℤ e ≡ pos 0
+    go : q +ℤ r +ℤ s +ℤ t -ℤ a ≡ pos 0 → pos 2 *ℤ r +ℤ pos 3 *ℤ s +ℤ pos 4 *ℤ t -ℤ b ≡ pos 0 → pos 3 *ℤ s +ℤ pos 6 *ℤ t -ℤ c ≡ pos 0
+        → pos 4 *ℤ t -ℤ d ≡ pos 0 → neg_ℤ e ≡ pos 0
         → IsDifference a b c d e (p ∷ q ∷ r ∷ s ∷ t ∷ [])
-    go ha hb hc hd he = record { constant = omega (arith, ints); linear = omega (arith, ints); square = omega (arith, ints); cube = omega (arith, ints); fourth = omega (arith, ints) }
+    go ha hb hc hd he = record {
+      constant = omega (arith, ints);
+      linear = omega (arith, ints);
+      square = omega (arith, ints);
+      cube = omega
+          (arith, ints);
+      fourth = omega (arith, ints);
+    }
 
 all-zero : (a b c d e k : ℤ) → AreZero a b c d e → quartic_at a b c d e k ≡ pos 0
 all-zero a b c d e k z =
@@ -130,11 +160,14 @@ module _ (f g : Tree) (a b c d e p q r s t : ℤ) (pf : IsPolynomial f) (pg : Is
       ≡ quartic_at (q +ℤ r +ℤ s +ℤ t -ℤ a) (pos 2 *ℤ r +ℤ pos 3 *ℤ s +ℤ pos 4 *ℤ t -ℤ b) (pos 3 *ℤ s +ℤ pos 6 *ℤ t -ℤ c) (pos 4 *ℤ t -ℤ d) (neg_ℤ e) k
   lack k = ap₂ ◌-ℤ◌ (ap₂ ◌-ℤ◌ (hg (k +ℤ pos 1)) (hg k)) (hf k) ∙ lacks a b c d e p q r s t k
 
-  difference-worth : (k : ℤ) → Worth (both difference_of (val g (pos 0) (k +ℤ pos 1)) (val g (pos 0) k)) (whole_value 0 (whole_at g (k +ℤ pos 1) -ℤ whole_at g k))
+  difference-worth : (k : ℤ) → Worth (both difference_of (val g (pos 0) (k +ℤ pos 1)) (val g (pos 0) k)) (whole_value 0 (whole_at g
+      (k +ℤ pos 1) -ℤ whole_at g k))
   difference-worth k =
-      worth_cong (both difference_of (val g (pos 0) (k +ℤ pos 1)) (val g (pos 0) k)) (whole_value 0 (whole_at g (k +ℤ pos 1)) -ᵛ whole_value 0 (whole_at g k)) (whole_value 0 (whole_at g (k +ℤ pos 1) -ℤ whole_at g k))
+      worth_cong (both difference_of (val g (pos 0) (k +ℤ pos 1)) (val g (pos 0) k)) (whole_value 0 (whole_at g (k +ℤ pos 1)) -ᵛ whole_value 0
+      (whole_at g k)) (whole_value 0 (whole_at g (k +ℤ pos 1) -ℤ whole_at g k))
       (sym (whole_value-sub (whole_at g (k +ℤ pos 1)) (whole_at g k)))
-      (worth-difference (val g (pos 0) (k +ℤ pos 1)) (val g (pos 0) k) (whole_value 0 (whole_at g (k +ℤ pos 1))) (whole_value 0 (whole_at g k)) (val-proper g (pos 0) (k +ℤ pos 1)) (val-proper g (pos 0) k)
+      (worth-difference (val g (pos 0) (k +ℤ pos 1)) (val g (pos 0) k) (whole_value 0 (whole_at g (k +ℤ pos 1))) (whole_value 0 (whole_at g k))
+      (val-proper g (pos 0) (k +ℤ pos 1)) (val-proper g (pos 0) k)
       (worth-whole_at g (k +ℤ pos 1) pg) (worth-whole_at g k pg))
 
   proper : (k : ℤ) → IsProper (both difference_of (val g (pos 0) (k +ℤ pos 1)) (val g (pos 0) k))
@@ -142,23 +175,29 @@ module _ (f g : Tree) (a b c d e p q r s t : ℤ) (pf : IsPolynomial f) (pg : Is
 
   steps : (k : ℤ) → Grows k → Steps g f k
   steps k h =
-      worth_same (both difference_of (val g (pos 0) (k +ℤ pos 1)) (val g (pos 0) k)) (val f (pos 0) k) (whole_value 0 (whole_at f k)) (proper k) (val-proper f (pos 0) k)
-      (worth_cong (both difference_of (val g (pos 0) (k +ℤ pos 1)) (val g (pos 0) k)) (whole_value 0 (whole_at g (k +ℤ pos 1) -ℤ whole_at g k)) (whole_value 0 (whole_at f k)) (ap (whole_value 0) h) (difference-worth k))
+      worth_same (both difference_of (val g (pos 0) (k +ℤ pos 1)) (val g (pos 0) k)) (val f (pos 0) k) (whole_value 0 (whole_at f k)) (proper k)
+      (val-proper f (pos 0) k)
+      (worth_cong (both difference_of (val g (pos 0) (k +ℤ pos 1)) (val g (pos 0) k)) (whole_value 0 (whole_at g (k +ℤ pos 1) -ℤ whole_at g k))
+      (whole_value 0 (whole_at f k)) (ap (whole_value 0) h) (difference-worth k))
       (worth-whole_at f k pf)
 
   grows : (k : ℤ) → Steps g f k → Grows k
   grows k h =
-      let w = same_worth (both difference_of (val g (pos 0) (k +ℤ pos 1)) (val g (pos 0) k)) (val f (pos 0) k) (whole_value 0 (whole_at f k)) (proper k) (val-proper f (pos 0) k) h (worth-whole_at f k pf) in
-      let e = worth_one (both difference_of (val g (pos 0) (k +ℤ pos 1)) (val g (pos 0) k)) (whole_value 0 (whole_at g (k +ℤ pos 1) -ℤ whole_at g k)) (whole_value 0 (whole_at f k)) (difference-worth k) w in
+      let w = same_worth (both difference_of (val g (pos 0) (k +ℤ pos 1)) (val g (pos 0) k)) (val f (pos 0) k) (whole_value 0 (whole_at f k))
+      (proper k) (val-proper f (pos 0) k) h (worth-whole_at f k pf) in
+      let e = worth_one (both difference_of (val g (pos 0) (k +ℤ pos 1)) (val g (pos 0) k)) (whole_value 0 (whole_at g
+      (k +ℤ pos 1) -ℤ whole_at g k)) (whole_value 0 (whole_at f k)) (difference-worth k) w in
       apart (whole_at g (k +ℤ pos 1) -ℤ whole_at g k) (whole_at f k)
       (whole_value_zero 0 ((whole_at g (k +ℤ pos 1) -ℤ whole_at g k) -ℤ whole_at f k)
-      (whole_value-sub (whole_at g (k +ℤ pos 1) -ℤ whole_at g k) (whole_at f k) ∙ ap (λ v. v -ᵛ whole_value 0 (whole_at f k)) e ∙ ring (ValueR 0) (whole_value 0 (whole_at f k) ∷ []) (search reads depth 16) refl))
+      (whole_value-sub (whole_at g (k +ℤ pos 1) -ℤ whole_at g k) (whole_at f k) ∙ ap (λ v. v -ᵛ whole_value 0 (whole_at f k)) e
+      ∙ ring (ValueR 0) (whole_value 0 (whole_at f k) ∷ []) (search reads depth 16) refl))
 
   pub telescopes-plain : AreLacking a b c d e p q r s t → (k : ℤ) → Steps g f k
   telescopes-plain z k = steps k (apart (whole_at g (k +ℤ pos 1) -ℤ whole_at g k) (whole_at f k)
       (lack k ∙ all-zero (q +ℤ r +ℤ s +ℤ t -ℤ a) (pos 2 *ℤ r +ℤ pos 3 *ℤ s +ℤ pos 4 *ℤ t -ℤ b) (pos 3 *ℤ s +ℤ pos 6 *ℤ t -ℤ c) (pos 4 *ℤ t -ℤ d) (neg_ℤ e) k z))
 
-  zero-at : (k : ℤ) → Grows k → quartic_at (q +ℤ r +ℤ s +ℤ t -ℤ a) (pos 2 *ℤ r +ℤ pos 3 *ℤ s +ℤ pos 4 *ℤ t -ℤ b) (pos 3 *ℤ s +ℤ pos 6 *ℤ t -ℤ c) (pos 4 *ℤ t -ℤ d) (neg_ℤ e) k ≡ pos 0
+  zero-at : (k : ℤ) → Grows k → quartic_at (q +ℤ r +ℤ s +ℤ t -ℤ a) (pos 2 *ℤ r +ℤ pos 3 *ℤ s +ℤ pos 4 *ℤ t -ℤ b) (pos 3 *ℤ s +ℤ pos 6 *ℤ t -ℤ c)
+      (pos 4 *ℤ t -ℤ d) (neg_ℤ e) k ≡ pos 0
   zero-at k h = sym (lack k) ∙ together (whole_at g (k +ℤ pos 1) -ℤ whole_at g k) (whole_at f k) h
 
   at : (K : ℤ) (j : ℕ) → K ≤ℤ (K +ℤ pos j)

@@ -109,7 +109,8 @@ module _ (P : Tree → Type 0) (H : Holds P) where
   all-numerator [] = H.number 0
   all-numerator (pos zero ∷ cs) = all-numerator cs
   all-numerator (pos (suc c) ∷ cs) = all-terms (monomial (suc c) (length cs)) cs (all-monomial (suc c) (length cs))
-  all-numerator (negsuc c ∷ cs) = all-terms (neg (monomial (suc c) (length cs))) cs (H.opposite (monomial (suc c) (length cs)) (all-monomial (suc c) (length cs)))
+  all-numerator (negsuc c ∷ cs) = all-terms (neg (monomial (suc c) (length cs))) cs (H.opposite (monomial (suc c) (length cs)) (all-monomial (suc c)
+      (length cs)))
 
   all-canonical : (cs : List ℤ) (d : ℕ) → P (canonical cs d)
   all-canonical cs d = cases (d == 1) (leads_below_zero cs)
@@ -180,7 +181,8 @@ module _ (F : ℤ → ℤ) (a : ℤ) (ns : List ℤ) (e : ℤ) (sum : IsSummed F
   step : (k : ℤ) → falling_value ns (whole_value 0 k) ≡ falling_value ns (whole_value 0 (k -ℤ pos 1)) +ᵛ whole_value 0 (pos d) *ᵛ whole_value 0 (F k)
   step k =
       falling-whole ns k ∙ ap (whole_value 0) (sum.step k) ∙ whole_value-add (falling_at ns (k -ℤ pos 1)) (e *ℤ F k)
-      ∙ ap₂ ◌+ᵛ◌ (sym (falling-whole ns (k -ℤ pos 1))) (whole_value-mul e (F k) ∙ ap (λ (z : ℤ). whole_value 0 z *ᵛ whole_value 0 (F k)) (sym (size-is e sum.positive)))
+      ∙ ap₂ ◌+ᵛ◌ (sym (falling-whole ns (k -ℤ pos 1))) (whole_value-mul e (F k)
+      ∙ ap (λ (z : ℤ). whole_value 0 z *ᵛ whole_value 0 (F k)) (sym (size-is e sum.positive)))
 
   pub closed-plain : (f t : Tree) → IsPolynomial f → ((k : ℤ) → whole_at f k ≡ F k) → t ≡ canonical ns (unsigned_abs e) → Closed f [] a t a
   closed-plain f t plain same form =
@@ -192,7 +194,8 @@ module _ (F : ℤ → ℤ) (a : ℤ) (ns : List ℤ) (e : ℤ) (sum : IsSummed F
             (λ k. worth_cong (val f (pos 0) k) (whole_value 0 (whole_at f k)) (whole_value 0 (F k)) (ap (whole_value 0) (same k)) (worth-whole_at f k plain))
             (λ k. worth-canonical ns d k (positive-size e sum.positive))
             (none-over (falling_value ns (whole_value 0 (a -ℤ pos 1))) (inv_value (whole_value 0 (pos d))) start)
-            (λ x. over-step (falling_value ns (whole_value 0 x)) (falling_value ns (whole_value 0 (x -ℤ pos 1))) (whole_value 0 (F x)) (whole_value 0 (pos d)) (nat_ne d (positive-size e sum.positive)) (step x));
+            (λ x. over-step (falling_value ns (whole_value 0 x)) (falling_value ns (whole_value 0 (x -ℤ pos 1))) (whole_value 0 (F x))
+            (whole_value 0 (pos d)) (nat_ne d (positive-size e sum.positive)) (step x));
       })
 
   pub canonical-plain : (t : Tree) → t ≡ canonical ns (unsigned_abs e) → IsCanonicalOver [] [] t

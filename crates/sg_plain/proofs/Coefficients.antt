@@ -22,7 +22,8 @@ length-zip f (x ∷ p) (y ∷ q) (suc n) h k = let l : length (zip_longest f p q
 
 pub length-mul : (p q : List ℤ) (m n : ℕ) → length p ≤ m + 1 → length q ≤ n + 1 → length (poly_mul ℤR p q) ≤ m + n + 1
 length-mul [] q m n h k = omega arith
-length-mul (x ∷ []) q m n h k = length-zip ◌+ℤ◌ (map (λ y. x *ℤ y) q) (pos 0 ∷ []) (m + n + 1) (let e = length_map (λ y. x *ℤ y) q in omega (arith, e)) (omega arith)
+length-mul (x ∷ []) q m n h k = length-zip ◌+ℤ◌ (map (λ y. x *ℤ y) q) (pos 0 ∷ []) (m + n + 1) (let e = length_map (λ y. x *ℤ y) q in omega
+    (arith, e)) (omega arith)
 length-mul (x ∷ (z ∷ p)) q zero n h k = absurd (omega arith)
 length-mul (x ∷ (z ∷ p)) q (suc m) n h k =
     length-zip ◌+ℤ◌ (map (λ y. x *ℤ y) q) (pos 0 ∷ poly_mul ℤR (z ∷ p) q) (suc m + n + 1) (let e = length_map (λ y. x *ℤ y) q in omega (arith, e))
@@ -52,7 +53,8 @@ has_coefficients (add x y) p =
     let i = has_coefficients y p.1 in
     record {
       list = zip_longest ◌+ℤ◌ h.list i.list;
-      short = let a = h.short in let b = i.short in length-zip ◌+ℤ◌ h.list i.list (max (degrees x).variable (degrees y).variable + 1) (omega (arith, a)) (omega (arith, b));
+      short = let a = h.short in let b = i.short in length-zip ◌+ℤ◌ h.list i.list (max (degrees x).variable (degrees y).variable + 1) (omega
+          (arith, a)) (omega (arith, b));
       value = λ k. ap₂ ◌+ℤ◌ (h.value k) (i.value k) ∙ sym (eval-add ℤR h.list i.list k);
     }
 has_coefficients (neg x) p =
@@ -86,10 +88,42 @@ pub record HasQuartic (t : Tree) : Type 0 where
 five : (t : Tree) (l : List ℤ) → length l ≤ 5 → ((k : ℤ) → whole_at t k ≡ eval ℤR l k) → HasQuartic t
 five t [] h v = record { a = pos 0; b = pos 0; c = pos 0; d = pos 0; e = pos 0; is = λ k. v k ∙ ring ℤR (k ∷ []) (search readsℤ depth 30 fits 8000) refl }
 five t (a ∷ []) h v = record { a = a; b = pos 0; c = pos 0; d = pos 0; e = pos 0; is = λ k. v k ∙ ring ℤR (a ∷ k ∷ []) (search readsℤ depth 30 fits 8000) refl }
-five t (a ∷ (b ∷ [])) h v = record { a = a; b = b; c = pos 0; d = pos 0; e = pos 0; is = λ k. v k ∙ ring ℤR (a ∷ b ∷ k ∷ []) (search readsℤ depth 30 fits 8000) refl }
-five t (a ∷ (b ∷ (c ∷ []))) h v = record { a = a; b = b; c = c; d = pos 0; e = pos 0; is = λ k. v k ∙ ring ℤR (a ∷ b ∷ c ∷ k ∷ []) (search readsℤ depth 30 fits 8000) refl }
-five t (a ∷ (b ∷ (c ∷ (d ∷ [])))) h v = record { a = a; b = b; c = c; d = d; e = pos 0; is = λ k. v k ∙ ring ℤR (a ∷ b ∷ c ∷ d ∷ k ∷ []) (search readsℤ depth 30 fits 8000) refl }
-five t (a ∷ (b ∷ (c ∷ (d ∷ (e ∷ []))))) h v = record { a = a; b = b; c = c; d = d; e = e; is = λ k. v k ∙ ring ℤR (a ∷ b ∷ c ∷ d ∷ e ∷ k ∷ []) (search readsℤ depth 30 fits 8000) refl }
+five t (a ∷ (b ∷ [])) h v = record {
+  a = a;
+  b = b;
+  c = pos 0;
+  d = pos 0;
+  e = pos 0;
+  is = λ k. v k
+      ∙ ring ℤR (a ∷ b ∷ k ∷ []) (search readsℤ depth 30 fits 8000) refl;
+}
+five t (a ∷ (b ∷ (c ∷ []))) h v = record {
+  a = a;
+  b = b;
+  c = c;
+  d = pos 0;
+  e = pos 0;
+  is = λ k. v k
+      ∙ ring ℤR (a ∷ b ∷ c ∷ k ∷ []) (search readsℤ depth 30 fits 8000) refl;
+}
+five t (a ∷ (b ∷ (c ∷ (d ∷ [])))) h v = record {
+  a = a;
+  b = b;
+  c = c;
+  d = d;
+  e = pos 0;
+  is = λ k. v k
+      ∙ ring ℤR (a ∷ b ∷ c ∷ d ∷ k ∷ []) (search readsℤ depth 30 fits 8000) refl;
+}
+five t (a ∷ (b ∷ (c ∷ (d ∷ (e ∷ []))))) h v = record {
+  a = a;
+  b = b;
+  c = c;
+  d = d;
+  e = e;
+  is = λ k. v k
+      ∙ ring ℤR (a ∷ b ∷ c ∷ d ∷ e ∷ k ∷ []) (search readsℤ depth 30 fits 8000) refl;
+}
 five t (a ∷ (b ∷ (c ∷ (d ∷ (e ∷ (f ∷ l)))))) h v = absurd (omega arith)
 
 pub quartic_of : (t : Tree) → IsPolynomial t → (degrees t).variable ≤ 4 → HasQuartic t

@@ -45,12 +45,14 @@ values_of t = whole_at t (pos 0) ∷ whole_at t (pos 1) ∷ whole_at t (pos 2) �
 pub interpolates : (t : Tree) (a b c d e : ℤ) → IsQuartic t a b c d e → Interpolated (values_of t) a b c d e
 interpolates t a b c d e h =
     combined (whole_at t (pos 0)) (whole_at t (pos 1)) (whole_at t (pos 2)) (whole_at t (pos 3)) (whole_at t (pos 4)) a b c d e
-    (h (pos 0) ∙ at-zero a b c d e) (h (pos 1) ∙ at-one a b c d e) (h (pos 2) ∙ at-two a b c d e) (h (pos 3) ∙ at-three a b c d e) (h (pos 4) ∙ at-four a b c d e)
+    (h (pos 0) ∙ at-zero a b c d e) (h (pos 1) ∙ at-one a b c d e) (h (pos 2) ∙ at-two a b c d e) (h (pos 3) ∙ at-three a b c d e) (h (pos 4)
+    ∙ at-four a b c d e)
 
 same-24 : (x y z : ℤ) → pos 24 *ℤ x ≡ z → pos 24 *ℤ y ≡ z → x ≡ y
 same-24 x y z h k = omega (arith, ints)
 
-one-interpolated : (vs : List ℤ) (a b c d e a' b' c' d' e' : ℤ) → Interpolated vs a b c d e → Interpolated vs a' b' c' d' e' → (k : ℤ) → quartic_at a b c d e k ≡ quartic_at a' b' c' d' e' k
+one-interpolated : (vs : List ℤ) (a b c d e a' b' c' d' e' : ℤ) → Interpolated vs a b c d e → Interpolated vs a' b' c' d' e' → (k : ℤ)
+    → quartic_at a b c d e k ≡ quartic_at a' b' c' d' e' k
 one-interpolated vs a b c d e a' b' c' d' e' h i k =
     let ha : a ≡ a' = same-24 a a' (dot (pos 24 ∷ pos 0 ∷ pos 0 ∷ pos 0 ∷ pos 0 ∷ []) vs) h.constant i.constant in
     let hb : b ≡ b' = same-24 b b' (dot (negsuc 49 ∷ pos 96 ∷ negsuc 71 ∷ pos 32 ∷ negsuc 5 ∷ []) vs) h.linear i.linear in
@@ -64,5 +66,6 @@ pub quartic_from : (t : Tree) (vs : List ℤ) (a b c d e : ℤ) → IsPolynomial
     → ((a' b' c' d' e' : ℤ) → Interpolated vs a' b' c' d' e' → Interpolated vs a b c d e) → IsQuartic t a b c d e
 quartic_from t vs a b c d e p h v i = λ k.
     let q = quartic_of t p h in
-    let known : Interpolated vs q.a q.b q.c q.d q.e = subst (λ (l : List ℤ). Interpolated l q.a q.b q.c q.d q.e) (sym v) (interpolates t q.a q.b q.c q.d q.e q.is) in
+    let known : Interpolated vs q.a q.b q.c q.d q.e = subst (λ (l : List ℤ). Interpolated l q.a q.b q.c q.d q.e) (sym v)
+    (interpolates t q.a q.b q.c q.d q.e q.is) in
     q.is k ∙ one-interpolated vs q.a q.b q.c q.d q.e a b c d e known (i q.a q.b q.c q.d q.e known) k

@@ -30,7 +30,8 @@ falling-more (c ∷ cs) l x =
 
 pub falling-turned : (cs : List ℤ) (x : ℤ) → falling_at (turned cs) x ≡ eval ℤR cs x
 falling-turned [] x = refl
-falling-turned (c ∷ cs) x = falling-more (turned cs) c x ∙ ap (λ v. x *ℤ v +ℤ c) (falling-turned cs x) ∙ ring ℤR (c ∷ x ∷ eval ℤR cs x ∷ []) (search readsℤ depth 16) refl
+falling-turned (c ∷ cs) x = falling-more (turned cs) c x ∙ ap (λ v. x *ℤ v +ℤ c) (falling-turned cs x)
+    ∙ ring ℤR (c ∷ x ∷ eval ℤR cs x ∷ []) (search readsℤ depth 16) refl
 
 length-times : (g : ℤ) (ns : List ℤ) → length (times g ns) ≡ length ns
 length-times g [] = refl
@@ -61,7 +62,8 @@ multiples cs d = all (common_divisor cs d) cs (divisor-each cs d)
 pub denominator-multiple : (cs : List ℤ) (d : ℕ) → d % common_divisor cs d ≡ 0
 denominator-multiple cs d = mod-eq-zero_of_dvd (common_divisor cs d) (divisor-denominator cs d)
 
-pub lowest-of : (cs ns : List ℤ) (d e : ℤ) (g : ℕ) → 0 < g → g ≡ common_divisor cs (unsigned_abs d) → times (pos g) ns ≡ cs → e *ℤ pos g ≡ d → pos 0 <ℤ e → IsReduced cs d ns e
+pub lowest-of : (cs ns : List ℤ) (d e : ℤ) (g : ℕ) → 0 < g → g ≡ common_divisor cs (unsigned_abs d) → times (pos g) ns ≡ cs → e *ℤ pos g ≡ d
+    → pos 0 <ℤ e → IsReduced cs d ns e
 lowest-of cs ns d e g some is numbers denominator positive = record {
   divisor = pos g;
   some = omega (arith, ints);
@@ -75,7 +77,8 @@ lowest-of cs ns d e g some is numbers denominator positive = record {
     k = common_divisor ns (unsigned_abs e)
 
     below : k * g ∣ unsigned_abs d
-    below = subst (λ (z : ℤ). k * g ∣ unsigned_abs z) denominator (subst (λ (m : ℕ). k * g ∣ m) (sym (unsigned_abs-mul e (pos g))) (mul-dvd-mul_right k (divisor-denominator ns (unsigned_abs e)) g))
+    below = subst (λ (z : ℤ). k * g ∣ unsigned_abs z) denominator (subst (λ (m : ℕ). k * g ∣ m) (sym (unsigned_abs-mul e (pos g)))
+        (mul-dvd-mul_right k (divisor-denominator ns (unsigned_abs e)) g))
 
     each : Each (λ n. k * g ∣ unsigned_abs n) cs
     each = subst (Each (λ n. k * g ∣ unsigned_abs n)) numbers (each-times k g ns (divisor-each ns (unsigned_abs e)))
@@ -92,7 +95,8 @@ multiples-at cs d b e = subst (λ (z : ℤ). Each (λ c. unsigned_abs c % unsign
 pub denominator-at : (cs : List ℤ) (d b : ℤ) → b ≡ pos (common_divisor cs (unsigned_abs d)) → unsigned_abs d % unsigned_abs b ≡ 0
 denominator-at cs d b e = subst (λ (z : ℤ). unsigned_abs d % unsigned_abs z ≡ 0) (sym e) (denominator-multiple cs (unsigned_abs d))
 
-pub lowest-at : (cs ns : List ℤ) (d e b : ℤ) → b ≡ pos (common_divisor cs (unsigned_abs d)) → pos 0 <ℤ b → times b ns ≡ cs → e *ℤ b ≡ d → pos 0 <ℤ e → IsReduced cs d ns e
+pub lowest-at : (cs ns : List ℤ) (d e b : ℤ) → b ≡ pos (common_divisor cs (unsigned_abs d)) → pos 0 <ℤ b → times b ns ≡ cs → e *ℤ b ≡ d
+    → pos 0 <ℤ e → IsReduced cs d ns e
 lowest-at cs ns d e b is some numbers denominator positive =
     lowest-of cs ns d e (common_divisor cs (unsigned_abs d)) (above (common_divisor cs (unsigned_abs d)) b is some) refl
     (subst (λ (z : ℤ). times z ns ≡ cs) is numbers) (subst (λ (z : ℤ). e *ℤ z ≡ d) is denominator) positive
@@ -111,7 +115,8 @@ each-turned a b l [] h = tt
 each-turned a b l (x ∷ xs) h = let k = h.0 in each-append b (turned xs) (x ∷ []) (each-turned a b l xs h.1) (omega (arith, k), tt)
 
 smaller : (n g : ℤ) (b : ℕ) → pos 0 <ℤ g → unsigned_abs (n *ℤ g) ≤ b → unsigned_abs n ≤ b
-smaller n g b h k = let e : unsigned_abs (n *ℤ g) ≡ unsigned_abs n * unsigned_abs g = unsigned_abs-mul n g in let m : unsigned_abs n * 1 ≤ unsigned_abs n * unsigned_abs g = mul-le-mul_left (unsigned_abs n) (one-below g h) in omega (arith, e, m, k)
+smaller n g b h k = let e : unsigned_abs (n *ℤ g) ≡ unsigned_abs n * unsigned_abs g = unsigned_abs-mul n g in let m : unsigned_abs n * 1 ≤
+    unsigned_abs n * unsigned_abs g = mul-le-mul_left (unsigned_abs n) (one-below g h) in omega (arith, e, m, k)
   where
     one-below : (g : ℤ) → pos 0 <ℤ g → 1 ≤ unsigned_abs g
     one-below g h = omega (arith, ints)

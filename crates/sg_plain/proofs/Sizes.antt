@@ -18,7 +18,8 @@ dot-more r p d l m n h k i e = let f : suc l * n ≡ n + l * n = omega arith in 
 pub power-66 : (l : ℕ) → l ≤ 4 → 2305843009213693952 * 66 ^ l ≤ 316912650057057350374175801344
 power-66 l h = let m : 66 ^ l ≤ 66 ^ 4 = pow-le-pow_right (omega arith) h in omega (arith, m)
 
-pub horner-term : (x v : ℤ) (l : ℕ) → unsigned_abs x ≤ 65 → unsigned_abs v ≤ 2305843009213693952 * 66 ^ l → unsigned_abs (x *ℤ v) ≤ 65 * (2305843009213693952 * 66 ^ l)
+pub horner-term : (x v : ℤ) (l : ℕ) → unsigned_abs x ≤ 65 → unsigned_abs v ≤ 2305843009213693952 * 66 ^ l
+    → unsigned_abs (x *ℤ v) ≤ 65 * (2305843009213693952 * 66 ^ l)
 horner-term x v l h k = product-size x v 65 (2305843009213693952 * 66 ^ l) h k
 
 pub horner-more : (r c p l m : ℕ) → r ≤ c + p → c ≤ 2305843009213693952 → p ≤ 65 * (2305843009213693952 * 66 ^ l) → m ≡ suc l → r ≤ 2305843009213693952 * 66 ^ m

@@ -13,7 +13,8 @@ returns-clause-closed c =
     let tree = (simp to_z-of_z at c.in_ok-h.ensures) ∙ ap (λ l. canonical l (unsigned_abs c.in_ok-w.w.denominator)) c.as_slice.ensures in
     let fits : FitsSigned w64 c.args.a = search rules in
     let sum = simp to_z-of_z at c.in_ok-w.ensures.sum in
-    closed-plain (λ k. quartic_at c.quartic_of-q.result.constant c.quartic_of-q.result.linear c.quartic_of-q.result.square c.quartic_of-q.result.cube c.quartic_of-q.result.fourth k)
+    closed-plain (λ k. quartic_at c.quartic_of-q.result.constant c.quartic_of-q.result.linear c.quartic_of-q.result.square c.quartic_of-q.result.cube
+    c.quartic_of-q.result.fourth k)
     c.args.a c.in_ok-w.w.numbers c.in_ok-w.w.denominator sum (tree_of c.args.f.now) (tree_of c.in_ok-h.h) c.requires.plain.0 c.quartic_of-q.ensures tree
 
 pub returns-clause-canonical : goal.returns-clause-canonical
@@ -22,7 +23,8 @@ returns-clause-canonical c =
     let tree = (simp to_z-of_z at c.in_ok-h.ensures) ∙ ap (λ l. canonical l (unsigned_abs c.in_ok-w.w.denominator)) c.as_slice.ensures in
     let fits : FitsSigned w64 c.args.a = search rules in
     let sum = simp to_z-of_z at c.in_ok-w.ensures.sum in
-    canonical-plain (λ k. quartic_at c.quartic_of-q.result.constant c.quartic_of-q.result.linear c.quartic_of-q.result.square c.quartic_of-q.result.cube c.quartic_of-q.result.fourth k)
+    canonical-plain (λ k. quartic_at c.quartic_of-q.result.constant c.quartic_of-q.result.linear c.quartic_of-q.result.square
+    c.quartic_of-q.result.cube c.quartic_of-q.result.fourth k)
     c.args.a c.in_ok-w.w.numbers c.in_ok-w.w.denominator sum (tree_of c.in_ok-h.h) tree
 
 pub returns-clause-form : goal.returns-clause-form
@@ -37,5 +39,6 @@ returns-clause-empty c =
     let tree = (simp to_z-of_z at c.in_ok-h.ensures) ∙ ap (λ l. canonical l (unsigned_abs c.in_ok-w.w.denominator)) c.as_slice.ensures in
     let fits : FitsSigned w64 c.args.a = search rules in
     let sum = simp to_z-of_z at c.in_ok-w.ensures.sum in
-    empty-plain (λ k. quartic_at c.quartic_of-q.result.constant c.quartic_of-q.result.linear c.quartic_of-q.result.square c.quartic_of-q.result.cube c.quartic_of-q.result.fourth k)
+    empty-plain (λ k. quartic_at c.quartic_of-q.result.constant c.quartic_of-q.result.linear c.quartic_of-q.result.square c.quartic_of-q.result.cube
+    c.quartic_of-q.result.fourth k)
     c.args.a c.in_ok-w.w.numbers c.in_ok-w.w.denominator sum (tree_of c.in_ok-h.h) tree

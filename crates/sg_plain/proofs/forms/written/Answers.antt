@@ -25,7 +25,8 @@ returns-clause-over c =
     let fits-4 : FitsSigned w128 c.quartic_of-q.result.cube = search rules in
     let fits-5 : FitsSigned w128 c.quartic_of-q.result.fourth = search rules in
     let tree = simp to_z-of_z at c.in_ok-h.ensures in
-    over-written (tree_of c.in_ok-h.h) (c.quartic_of-q.result.fourth ∷ c.quartic_of-q.result.cube ∷ c.quartic_of-q.result.square ∷ c.quartic_of-q.result.linear ∷ c.quartic_of-q.result.constant ∷ []) tree
+    over-written (tree_of c.in_ok-h.h) (c.quartic_of-q.result.fourth ∷ c.quartic_of-q.result.cube ∷ c.quartic_of-q.result.square ∷
+    c.quartic_of-q.result.linear ∷ c.quartic_of-q.result.constant ∷ []) tree
 
 pub returns-clause-canonical : goal.returns-clause-canonical
 returns-clause-canonical c =
@@ -35,7 +36,8 @@ returns-clause-canonical c =
     let fits-4 : FitsSigned w128 c.quartic_of-q.result.cube = search rules in
     let fits-5 : FitsSigned w128 c.quartic_of-q.result.fourth = search rules in
     let tree = simp to_z-of_z at c.in_ok-h.ensures in
-    canonical-written (tree_of c.in_ok-h.h) (c.quartic_of-q.result.fourth ∷ c.quartic_of-q.result.cube ∷ c.quartic_of-q.result.square ∷ c.quartic_of-q.result.linear ∷ c.quartic_of-q.result.constant ∷ []) tree
+    canonical-written (tree_of c.in_ok-h.h) (c.quartic_of-q.result.fourth ∷ c.quartic_of-q.result.cube ∷ c.quartic_of-q.result.square ∷
+    c.quartic_of-q.result.linear ∷ c.quartic_of-q.result.constant ∷ []) tree
 
 pub returns-clause-form : goal.returns-clause-form
 returns-clause-form c =
@@ -45,4 +47,5 @@ returns-clause-form c =
     let fits-4 : FitsSigned w128 c.quartic_of-q.result.cube = search rules in
     let fits-5 : FitsSigned w128 c.quartic_of-q.result.fourth = search rules in
     let tree = simp to_z-of_z at c.in_ok-h.ensures in
-    form-is (tree_of c.in_ok-h.h) (c.quartic_of-q.result.fourth ∷ c.quartic_of-q.result.cube ∷ c.quartic_of-q.result.square ∷ c.quartic_of-q.result.linear ∷ c.quartic_of-q.result.constant ∷ []) 1 tree
+    form-is (tree_of c.in_ok-h.h) (c.quartic_of-q.result.fourth ∷ c.quartic_of-q.result.cube ∷ c.quartic_of-q.result.square ∷
+    c.quartic_of-q.result.linear ∷ c.quartic_of-q.result.constant ∷ []) 1 tree

@@ -16,7 +16,8 @@ returns-in-Some-split_first-clause-small t c = λ b h.
     let each = subst (Each (λ v. unsigned_abs v ≤ b)) c.in-Some-split_first.ensures.cases.0 h in
     let l : length c.args.values.now ≡ suc (length c.in-Some-split_first.values.now) = ap length c.in-Some-split_first.ensures.cases.0 in
     subst (λ z. unsigned_abs z ≤ length c.args.values.now * (4096 * b)) (sym (to_z-of_z w128 c.plus.result fits-p))
-    (dot-more (unsigned_abs c.plus.result) (unsigned_abs c.weighted.result) (unsigned_abs c.dot.result) (length c.in-Some-split_first.values.now) (length c.args.values.now) (4096 * b) s (w b each.0) (c.dot.ensures.small b each.1) l)
+    (dot-more (unsigned_abs c.plus.result) (unsigned_abs c.weighted.result) (unsigned_abs c.dot.result) (length c.in-Some-split_first.values.now)
+    (length c.args.values.now) (4096 * b) s (w b each.0) (c.dot.ensures.small b each.1) l)
 
 pub returns-in-Some-split_first-clause-limit : goal.returns-in-Some-split_first-clause-limit
 returns-in-Some-split_first-clause-limit t c =
@@ -30,4 +31,5 @@ returns-in-Some-split_first-clause-limit t c =
     let l : length c.args.values.now ≡ suc (length c.in-Some-split_first.values.now) = ap length c.in-Some-split_first.ensures.cases.0 in
     let x : unsigned_abs c.weighted.result ≤ 4096 * 70368744177664 = w 70368744177664 each.0 in
     subst (λ z. unsigned_abs z ≤ length c.args.values.now * 288230376151711744) (sym (to_z-of_z w128 c.plus.result fits-p))
-    (dot-more (unsigned_abs c.plus.result) (unsigned_abs c.weighted.result) (unsigned_abs c.dot.result) (length c.in-Some-split_first.values.now) (length c.args.values.now) 288230376151711744 s (omega (arith, x)) c.dot.ensures.limit l)
+    (dot-more (unsigned_abs c.plus.result) (unsigned_abs c.weighted.result) (unsigned_abs c.dot.result) (length c.in-Some-split_first.values.now)
+    (length c.args.values.now) 288230376151711744 s (omega (arith, x)) c.dot.ensures.limit l)

@@ -14,5 +14,7 @@ returns c =
     let fits-y : FitsSigned w128 c.value-y.result = search rules in
     let q = simp to_z-of_z at c.interpolated.ensures in
     quartic_from (tree_of c.args.e.now) (c.value-u.result ∷ c.value-v.result ∷ c.value-w.result ∷ c.value-x.result ∷ c.value-y.result ∷ [])
-    c.interpolated.result.constant c.interpolated.result.linear c.interpolated.result.square c.interpolated.result.cube c.interpolated.result.fourth c.requires.0 c.requires.1
-    (ap₂ ◌∷◌ c.value-u.ensures.value (ap₂ ◌∷◌ c.value-v.ensures.value (ap₂ ◌∷◌ c.value-w.ensures.value (ap₂ ◌∷◌ c.value-x.ensures.value (ap₂ ◌∷◌ c.value-y.ensures.value refl))))) q
+    c.interpolated.result.constant c.interpolated.result.linear c.interpolated.result.square c.interpolated.result.cube c.interpolated.result.fourth
+    c.requires.0 c.requires.1
+    (ap₂ ◌∷◌ c.value-u.ensures.value (ap₂ ◌∷◌ c.value-v.ensures.value (ap₂ ◌∷◌ c.value-w.ensures.value (ap₂ ◌∷◌ c.value-x.ensures.value
+    (ap₂ ◌∷◌ c.value-y.ensures.value refl))))) q

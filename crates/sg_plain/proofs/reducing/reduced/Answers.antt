@@ -17,7 +17,8 @@ exact_quotient-requires-clause-exact c =
     let fits : FitsSigned w128 c.divisor-by.result = search rules in
     let fits-d : FitsSigned w128 c.args.denominator = search rules in
     let e = simp to_z-of_z at c.divisor-by.ensures.value in
-    rw (to_z-of_z w128 c.divisor-by.result fits, to_z-of_z w128 c.args.denominator fits-d) (denominator-at c.args.numbers.now c.args.denominator c.divisor-by.result e)
+    rw (to_z-of_z w128 c.divisor-by.result fits, to_z-of_z w128 c.args.denominator fits-d)
+    (denominator-at c.args.numbers.now c.args.denominator c.divisor-by.result e)
 
 pub returns : goal.returns
 returns c =
@@ -29,4 +30,5 @@ returns c =
     let value = simp to_z-of_z at c.exact_quotient.ensures.value in
     let sign = simp to_z-of_z at c.exact_quotient.ensures.sign in
     subst (λ z. IsReduced c.args.numbers.now c.args.denominator c.in_ok-numbers.numbers z) (sym (to_z-of_z w128 c.exact_quotient.result fits-q))
-    (lowest-at c.args.numbers.now c.in_ok-numbers.numbers c.args.denominator c.exact_quotient.result c.divisor-by.result e c.divisor-by.ensures.some numbers value (sign c.requires))
+    (lowest-at c.args.numbers.now c.in_ok-numbers.numbers c.args.denominator c.exact_quotient.result c.divisor-by.result e c.divisor-by.ensures.some
+    numbers value (sign c.requires))

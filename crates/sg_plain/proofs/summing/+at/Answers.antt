@@ -39,5 +39,6 @@ returns-in-Some-clause-size t c =
     let s = horner-term c.args.x c.at-v.result (length c.in-Some.above.now) c.requires.near c.at-v.ensures.size in
     let each = subst (Each (λ v. unsigned_abs v ≤ 2305843009213693952)) c.in-Some.ensures.cases.0 c.requires.small in
     subst (λ z. unsigned_abs z ≤ 2305843009213693952 * 66 ^ length c.args.terms.now) (sym (to_z-of_z w128 c.plus.result fits))
-    (horner-more (unsigned_abs c.plus.result) (unsigned_abs c.in-Some.c.now) (unsigned_abs c.multiplied.result) (length c.in-Some.above.now) (length c.args.terms.now) h each.0
+    (horner-more (unsigned_abs c.plus.result) (unsigned_abs c.in-Some.c.now) (unsigned_abs c.multiplied.result) (length c.in-Some.above.now)
+    (length c.args.terms.now) h each.0
     (subst (λ z. unsigned_abs z ≤ 65 * (2305843009213693952 * 66 ^ length c.in-Some.above.now)) (sym e) s) l)

@@ -32,4 +32,5 @@ returns-clause-size c =
     let p = power-66-all (length c.args.terms.now) c.requires.few in
     let s = horner-term c.args.x c.at.result (length c.args.terms.now) c.requires.near c.at.ensures.size in
     let t = subst (λ z. unsigned_abs z ≤ 65 * (2305843009213693952 * 66 ^ length c.args.terms.now)) (sym e) s in
-    subst (λ z. unsigned_abs z ≤ 1267650600228229401496703205376) (sym (to_z-of_z w128 c.opposite.result fits ∙ o)) (opposite-size c.multiplied.result (omega (arith, p, t)))
+    subst (λ z. unsigned_abs z ≤ 1267650600228229401496703205376) (sym (to_z-of_z w128 c.opposite.result fits
+    ∙ o)) (opposite-size c.multiplied.result (omega (arith, p, t)))

@@ -21,7 +21,8 @@ returns-clause-sum c =
     let low = c.in_ok-w.ensures in
     summed-by c.args.q.constant c.args.q.linear c.args.q.square c.args.q.cube c.args.q.fourth
     (λ k. quartic_at c.args.q.constant c.args.q.linear c.args.q.square c.args.q.cube c.args.q.fourth k) c.args.a
-    (neg_ℤ ((c.args.a -ℤ pos 1) *ℤ eval ℤR (sum_terms (c.args.q.constant ∷ c.args.q.linear ∷ c.args.q.square ∷ c.args.q.cube ∷ c.args.q.fourth ∷ [])) (c.args.a -ℤ pos 1)))
+    (neg_ℤ ((c.args.a -ℤ pos 1) *ℤ eval ℤR (sum_terms
+    (c.args.q.constant ∷ c.args.q.linear ∷ c.args.q.square ∷ c.args.q.cube ∷ c.args.q.fourth ∷ [])) (c.args.a -ℤ pos 1)))
     c.as_slice.result.now c.in_ok-w.w.numbers c.in_ok-w.w.denominator
     (quartic-eval c.args.q.constant c.args.q.linear c.args.q.square c.args.q.cube c.args.q.fourth) (c.as_slice.ensures ∙ is) refl low
 

@@ -1,13 +1,13 @@
 -- From what the calls below answer to what is said of an answer.
---   later-reply, taken-reply, closed-reply, none-reply, wide-reply     the replies to a sum
+--   later-reply, taken-reply, closed-reply, wide-reply     the replies to a sum
 --   nested-closed, nested-none      those over sums
---   not-narrow                      what is no polynomial alone may be wide
+--   not-lone                        what is no expression alone may be wide
 --   pole-taken                  what the search for poles answers is one
 --   far-form, pole-form, factor-form             the part of a pole can be printed
 --   far-refusal, pole-refusal, factor-refusal    the lines of poles
 --   stop-keeps, stop-heavy      a step that doesn't fit in their place
 --   value-reply                 the replies of an evaluation
-use Rattle.std.proofs.Common.{◌≡◌, ℕ, ℤ, List, [], ◌∷◌, ◌++◌, Option, Some, None, codes, pos, refl, sym, ap, ap₂, subst, ◌∙◌, ◌⊎◌, false, inl, inr}
+use Rattle.std.proofs.Common.{◌≡◌, ℕ, ℤ, List, [], ◌∷◌, ◌++◌, length, map, Option, Some, None, codes, pos, refl, sym, ap, ap₂, subst, ◌∙◌, ◌⊎◌, false, inl, inr}
 use Rattle.std.specs.Fmt.{signed_decimal}
 use Rattle.sg_algebra.specs.Coefficients.{Each}
 use Rattle.sg_expr.specs.Tree.{tree_of}
@@ -70,20 +70,13 @@ closed-reply a f h status line rational spared closed canonical back done is =
     let over_own : IsCanonicalOver (prods (f ∷ [])) (sums (f ∷ [])) h = rw (no_products f rational, no_sums f rational) canonical in
     inr (inr (spared, inl (record { status_is = done; form = h; first = a; closed = closed; canonical = over_own; reads_back = back; is = is })))
 
-pub none-reply : (a : ℤ) (f : Tree) (status : Status) (line : List ℕ) → IsRational f → IsSpared (Sum a) (f ∷ []) → ((e : Tree) → Over [] e → ¬ Tele e f) → status ≡ No → line ≡ codes "none over k\n"
-    → IsTakenReply (Sum a) (f ∷ []) status line
-none-reply a f status line rational spared never done is =
-    let none_over : (e : Tree) → Over (sums (f ∷ [])) e → ¬ Tele e f = rw (no_sums f rational) never in
-    let own : none_line (prods (f ∷ []) ++ sums (f ∷ [])) ≡ codes "none over k\n" = rw (no_products f rational, no_sums f rational) refl in
-    inr (inr (spared, inr (record { status_is = done; none = none_over; is = is ∙ sym own })))
-
 pub wide-reply : (a : ℤ) (es : List Tree) (status : Status) (line : List ℕ) → (IsSpared (Sum a) es ⊎ HasHeavyPart (Sum a) es) → IsStopped status line → (IsNarrow (Sum a) es → ⊥) → IsTakenReply (Sum a) es status line
 wide-reply a es status line spared s narrow = inr (inl (s.wide, record { step = s.step; cause = s.too_wide; spared = spared; not_narrow = narrow; is = s.is }))
 
-pub not-narrow : (a : ℤ) (es : List Tree) → (Alone IsPolynomial es → ⊥) → IsNarrow (Sum a) es → ⊥
-not-narrow a [] h n = n
-not-narrow a (f ∷ []) h n = h n.0
-not-narrow a (f ∷ (g ∷ es)) h n = n
+pub not-lone : (a : ℤ) (items : List Expr) → (length items ≡ 1 → ⊥) → IsNarrow (Sum a) (map tree_of items) → ⊥
+not-lone a [] h n = n
+not-lone a (x ∷ []) h n = h refl
+not-lone a (x ∷ (y ∷ items)) h n = n
 
 pub nested-closed : (a : ℤ) (es : List Tree) (s : ℤ) (h : Tree) (status : Status) (line : List ℕ) → IsSpared (Sum a) es → s ≡ start es a → IsFirstClosed a es h → IsCanonicalOver (prods es) (sums es) h
     → Reads (printed (codes "m") h) (codes "m") h → status ≡ Done → line ≡ closed_line (printed (codes "m") h) s → IsTakenReply (Sum a) es status line

@@ -9,7 +9,7 @@
 --   IsNoValueLine     `no value`: it has none
 --   IsDefined         the defined answer; a line a command
 --   IsWideStep        what is known of a step that doesn't fit; a line a command that knows more than this
---   IsNarrow          no step is wide: a polynomial of degree at most 1 with small coefficients is summed from a small limit on; or `tower` asks for the sums
+--   IsNarrow          no step is wide: a plain polynomial is summed from a limit on that is near; or `tower` asks for the sums
 --                     of an expression without any
 use Rattle.std.specs.Prelude.{◌≡◌, ℕ, ◌≤◌, List, [], ◌∷◌, ◌++◌, ℤ, pos, negsuc, unsigned_abs, codes, Option, Some, None, ◌⊎◌}
 use Rattle.sg_algebra.specs.Coefficients.{Each}
@@ -18,8 +18,6 @@ use Rattle.sg_spec.specs.Tree.{Tree}
 use Rattle.sg_spec.specs.Value.{val, SameValue}
 use Rattle.sg_spec.specs.Steps.{steps, IsFirstMisfit}
 use Rattle.sg_spec.specs.Reading.{Reads}
-use Rattle.sg_spec.specs.Limits.{degrees}
-use Rattle.sg_spec.specs.Polynomials.{IsPolynomial, weight}
 use Rattle.sg_spec.specs.Generators.{Over, all_sums, sums, prods, start}
 use Rattle.sg_spec.specs.Canonical.{IsCanonicalOver}
 use Rattle.sg_spec.specs.Closed.{Closed}
@@ -28,6 +26,7 @@ use Rattle.sg_num.specs.Value.{fraction}
 use Rattle.sg_num.specs.Stopped.{IsTooWide}
 use Rattle.sg_num.specs.declared.rat.Rat.{Rat}
 use Rattle.sg_num.specs.declared.step.Wide.{Wide as WideStep}
+use Rattle.sg_plain.specs.Plain.{IsPlain}
 use Rattle.sg_text.specs.PrintedText.{printed}
 use Rattle.sg_text.specs.RationalText.{rational_text}
 use Rattle.sg_value.specs.Answer.{step_of}
@@ -134,6 +133,6 @@ IsWideStep (ValueAtParameter n k) es step = IsValueStep n k es step
 IsWideStep c es step = IsTooWide step
 
 abbrev pub IsNarrow : Command → List Tree → Type 0
-IsNarrow (Sum a) (f ∷ []) = IsPolynomial f × ((degrees f).variable ≤ 1) × (weight f ≤ 65536) × (unsigned_abs a ≤ 64)
+IsNarrow (Sum a) (f ∷ []) = IsPlain f × (unsigned_abs a ≤ 64)
 IsNarrow Tower (f ∷ []) = all_sums f ≡ []
 IsNarrow c es = ⊥

@@ -2,7 +2,6 @@ ghost use Rattle.std.specs.Prelude.{◌≡◌, ◌<◌, ◌≤◌, ◌↔◌, []
 ghost use Rattle.sg_algebra.specs.Coefficients.{Each};
 ghost use Rattle.sg_expr.specs.Tree.{tree_of};
 ghost use Rattle.sg_spec.specs.Limits.{counted};
-ghost use Rattle.sg_spec.specs.Polynomials.{IsPolynomial};
 ghost use Rattle.sg_spec.specs.Printing.{InForm};
 ghost use Rattle.sg_spec.specs.Reading.{Reads};
 ghost use Rattle.sg_text.specs.PrintedText.{printed};
@@ -10,26 +9,24 @@ ghost use Rattle.sg_words.specs.declared.asked.Command.TheVariants.{Sum};
 ghost use Rattle.sg_top.specs.Answer.{IsCountedReply, IsTakenReply};
 ghost use Rattle.sg_top.specs.Lines.{closed_line, listed, none_line};
 ghost use Rattle.sg_top.specs.Output.{IsNarrow};
-ghost use Rattle.sg_top.specs.Refusals.{IsSpared};
 ghost use Rattle.sg_worth_theory.proofs.Plain.{HasNoProduct};
-ghost use Rattle.sg_top.specs.Taking.{IsRational, Alone, IsFirstLater, AreAdmitted};
+ghost use Rattle.sg_top.specs.Taking.{IsFirstLater, AreAdmitted};
 ghost use Rattle.sg_top.specs.declared.status.Status.TheVariants.{Done, No};
 
 use crate::Status;
 use crate::lines::{closed_text, item_text};
 use crate::poles::pole_reply;
 use crate::reply::Reply;
-use sg_closing::rational_closed;
 use sg_expr::Expr;
 use sg_limits::{Facts, inspect};
 use sg_nested::nested_closed;
 use sg_num::Row;
-use sg_polysum::closed_form;
+use sg_plain::closed_form;
 use sg_text::print;
 use std::alloc::{AllocError, Global};
 
-/// The answer to the command that sums the first expression from a on, over the sums of all of them: a polynomial alone is summed
-/// by itself, other expressions only where no part of a divisor is 0. The error is out of memory.
+/// The answer to the command that sums the first expression from a on, over the sums of all of them: a plain polynomial alone is
+/// summed in whole arithmetic, other expressions only where no part of a divisor is 0. The error is out of memory.
 pub fn sum_reply(alloc: Global, items: &Row<Expr>, a: i64) -> Result<Reply, AllocError>
     requires some { 0 < length items.now }
     requires few { length items.now ≤ 16 }
@@ -39,11 +36,9 @@ pub fn sum_reply(alloc: Global, items: &Row<Expr>, a: i64) -> Result<Reply, Allo
     requires high { a ≤ℤ pos 1000 }
     ensures { IfOk result (λ r. IsCountedReply (Sum a) (map tree_of items.now) r.status r.text.items) }
 {
-    match lone_polynomial(items) {
-        Some(f) => {
-            let reply = polynomial_reply(alloc, f, a)?;
-            Ok(reply)
-        }
+    let plain = plain_reply(alloc, items, a)?;
+    match plain {
+        Some(reply) => Ok(reply),
         None => {
             let reply = tested_reply(alloc, items, a)?;
             Ok(reply)
@@ -51,27 +46,22 @@ pub fn sum_reply(alloc: Global, items: &Row<Expr>, a: i64) -> Result<Reply, Allo
     }
 }
 
-// The only expression, where it is a polynomial.
-fn lone_polynomial(items: &Row<Expr>) -> Option<&Expr>
-    ensures { MatchOption result (Alone IsPolynomial (map tree_of items.now) → ⊥)
-        (λ f. (map tree_of items.now ≡ tree_of f.now ∷ []) × IsPolynomial (tree_of f.now)) }
+// The answer where the only expression is a plain polynomial, and a is near.
+fn plain_reply(alloc: Global, items: &Row<Expr>, a: i64) -> Result<Option<Reply>, AllocError>
+    ensures { IfOk result (λ o. MatchOption o (IsNarrow (Sum a) (map tree_of items.now) → ⊥)
+        (λ r. IsCountedReply (Sum a) (map tree_of items.now) r.status r.text.items)) }
 {
     if items.len() != 1 {
-        return None;
+        return Ok(None);
     }
     let f = items.get(0);
-    if is_polynomial(f) { Some(f) } else { None }
-}
-
-// Whether the expression is built from numerals, the variable, sums, products, opposites and powers alone.
-fn is_polynomial(e: &Expr) -> bool
-    ensures { IsTrue result ↔ IsPolynomial (tree_of e.now) }
-{
-    match e {
-        Expr::Num(_) | Expr::Here => true,
-        Expr::Add(a, b) | Expr::Mul(a, b) => is_polynomial(a) && is_polynomial(b),
-        Expr::Neg(a) | Expr::Pow(a, _) => is_polynomial(a),
-        Expr::Param | Expr::Div(_, _) | Expr::Sum { .. } | Expr::Prod { .. } => false,
+    let closed = closed_form(alloc, f, a)?;
+    match closed {
+        Some(h) => {
+            let reply = closed_reply(alloc, &h, a)?;
+            Ok(Some(reply))
+        }
+        None => Ok(None),
     }
 }
 
@@ -93,7 +83,7 @@ fn tested_reply(alloc: Global, items: &Row<Expr>, a: i64) -> Result<Reply, Alloc
         }
         None => match inspect(alloc, items, Some(a)) {
             Ok(facts) => {
-                let reply = spared_reply(alloc, items, &facts, a)?;
+                let reply = nested_reply(alloc, items, &facts, a)?;
                 Ok(reply)
             }
             Err(fault) => {
@@ -128,90 +118,6 @@ fn has_no_product(e: &Expr) -> bool
         Expr::Neg(a) | Expr::Pow(a, _) => has_no_product(a),
         Expr::Sum { from: _, body } => has_no_product(body),
         Expr::Prod { .. } => false,
-    }
-}
-
-// The answer for a polynomial.
-fn polynomial_reply(alloc: Global, f: &Expr, a: i64) -> Result<Reply, AllocError>
-    requires { IsPolynomial (tree_of f.now) }
-    ensures { IfOk result (λ r. IsTakenReply (Sum a) (tree_of f.now ∷ []) r.status r.text.items) }
-{
-    match closed_form(alloc, f, a) {
-        Ok(h) => {
-            let reply = closed_reply(alloc, &h, a)?;
-            Ok(reply)
-        }
-        Err(stop) => {
-            let reply = Reply::stopped(alloc, stop)?;
-            Ok(reply)
-        }
-    }
-}
-
-// The answer for expressions that pass all tests: a rational function alone is summed by itself.
-fn spared_reply(
-    alloc: Global,
-    items: &Row<Expr>,
-    facts: &Facts,
-    a: i64,
-) -> Result<Reply, AllocError>
-    requires some { 0 < length items.now }
-    requires admitted { AreAdmitted a facts.now (map tree_of items.now) }
-    ensures { IfOk result (λ r. IsTakenReply (Sum a) (map tree_of items.now) r.status r.text.items) }
-{
-    if let Some(f) = lone_rational(items) {
-        let reply = rational_reply(alloc, f, a)?;
-        return Ok(reply);
-    }
-    let reply = nested_reply(alloc, items, facts, a)?;
-    Ok(reply)
-}
-
-// The only expression, where it holds no sum and no product.
-fn lone_rational(items: &Row<Expr>) -> Option<&Expr>
-    ensures { MatchOption result (Alone IsRational (map tree_of items.now) → ⊥)
-        (λ f. (map tree_of items.now ≡ tree_of f.now ∷ []) × IsRational (tree_of f.now)) }
-{
-    if items.len() != 1 {
-        return None;
-    }
-    let f = items.get(0);
-    if is_rational(f) { Some(f) } else { None }
-}
-
-// Whether the expression holds no sum and no product.
-fn is_rational(e: &Expr) -> bool
-    ensures { IsTrue result ↔ IsRational (tree_of e.now) }
-{
-    match e {
-        Expr::Num(_) | Expr::Here | Expr::Param => true,
-        Expr::Add(a, b) | Expr::Mul(a, b) | Expr::Div(a, b) => is_rational(a) && is_rational(b),
-        Expr::Neg(a) | Expr::Pow(a, _) => is_rational(a),
-        Expr::Sum { .. } | Expr::Prod { .. } => false,
-    }
-}
-
-// The answer for a rational function that is no polynomial, no part of whose divisors is 0.
-fn rational_reply(alloc: Global, f: &Expr, a: i64) -> Result<Reply, AllocError>
-    requires rational { IsRational (tree_of f.now) }
-    requires not_narrow { IsNarrow (Sum a) (tree_of f.now ∷ []) → ⊥ }
-    requires form { InForm false false (tree_of f.now) }
-    requires spared { IsSpared (Sum a) (tree_of f.now ∷ []) }
-    ensures { IfOk result (λ r. IsTakenReply (Sum a) (tree_of f.now ∷ []) r.status r.text.items) }
-{
-    match rational_closed(alloc, f, a) {
-        Ok(Some(h)) => {
-            let reply = closed_reply(alloc, &h, a)?;
-            Ok(reply)
-        }
-        Ok(None) => {
-            let reply = Reply::fixed(alloc, b"none over k\n", Status::No)?;
-            Ok(reply)
-        }
-        Err(step) => {
-            let reply = Reply::stopped(alloc, step)?;
-            Ok(reply)
-        }
     }
 }
 

@@ -9,8 +9,8 @@ use Rattle.sg_top.proofs.sums.tested_reply.Goals as goal
 pub inspect-requires-clause-form : goal.inspect-requires-clause-form
 inspect-requires-clause-form c = all_known (map tree_of c.args.items.now) c.requires.form
 
-pub spared_reply-requires-clause-admitted : goal.spared_reply-requires-clause-admitted
-spared_reply-requires-clause-admitted c =
+pub nested_reply-requires-clause-admitted : goal.nested_reply-requires-clause-admitted
+nested_reply-requires-clause-admitted c =
     let fits : FitsSigned w64 c.args.a = c.ranges.a in
     simp to_z-of_z (record {
       form = c.requires.form;

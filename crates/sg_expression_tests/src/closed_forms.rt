@@ -1,5 +1,6 @@
 use sg_expr::Expr;
 use sg_plain::{closed_form, plain_form, telescopes};
+use sg_reciprocals::is_reciprocal;
 use std::alloc::{AllocError, Global};
 use std::test::Fail;
 
@@ -87,5 +88,21 @@ fn plain_polynomials_in_canonical_form(rt: HostRuntime) -> Result<(), Fail> {
     assert!(rt; got.same(&want));
     let half = over(alloc, Expr::Here, 2)?;
     assert!(rt; plain_form(alloc, &half)?.is_none());
+    Ok(())
+}
+
+/// c/(k+b).
+fn quotient(alloc: Global, c: i128, b: i128) -> Result<Expr, AllocError> {
+    let below = plus(alloc, Expr::Here, Expr::Num(b))?;
+    let left = Box::new(alloc, Expr::Num(c))?;
+    Ok(Expr::Div(left, Box::new(alloc, below)?))
+}
+
+#[test]
+fn reciprocals_are_found(rt: HostRuntime) -> Result<(), Fail> {
+    let alloc = rt.alloc();
+    assert!(rt; is_reciprocal(&quotient(alloc, 3, 7)?));
+    assert!(rt; !is_reciprocal(&quotient(alloc, 0, 1)?));
+    assert!(rt; !is_reciprocal(&over(alloc, Expr::Here, 2)?));
     Ok(())
 }

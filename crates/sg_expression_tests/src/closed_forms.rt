@@ -26,40 +26,6 @@ fn power(alloc: Global, e: u128) -> Result<Expr, AllocError> {
     Ok(Expr::Pow(Box::new(alloc, Expr::Here)?, e))
 }
 
-/// (2*m^3+3*m^2+m+30)/6.
-fn squares(alloc: Global) -> Result<Expr, AllocError> {
-    let cubes = times(alloc, 2, power(alloc, 3)?)?;
-    let all = plus(alloc, cubes, times(alloc, 3, power(alloc, 2)?)?)?;
-    let all = plus(alloc, all, Expr::Here)?;
-    over(alloc, plus(alloc, all, Expr::Num(30))?, 6)
-}
-
-/// k^4-3*k+2.
-fn fourth(alloc: Global) -> Result<Expr, AllocError> {
-    let below = times(alloc, 3, Expr::Here)?;
-    let below = minus(alloc, below)?;
-    let above = power(alloc, 4)?;
-    let all = plus(alloc, above, below)?;
-    let all = plus(alloc, all, Expr::Num(2))?;
-    Ok(all)
-}
-
-/// (6*m^5+15*m^4+10*m^3-45*m^2+14*m)/30.
-fn fourth_sum(alloc: Global) -> Result<Expr, AllocError> {
-    let all = plus(
-        alloc,
-        times(alloc, 6, power(alloc, 5)?)?,
-        times(alloc, 15, power(alloc, 4)?)?,
-    )?;
-    let all = plus(alloc, all, times(alloc, 10, power(alloc, 3)?)?)?;
-    let all = plus(
-        alloc,
-        all,
-        minus(alloc, times(alloc, 45, power(alloc, 2)?)?)?,
-    )?;
-    over(alloc, plus(alloc, all, times(alloc, 14, Expr::Here)?)?, 30)
-}
-
 /// Whether the sum of f from a on has the closed form that is wanted.
 fn sums_to(alloc: Global, f: Expr, a: i64, want: Expr) -> Result<bool, AllocError> {
     match closed_form(alloc, &f, a)? {
@@ -71,19 +37,6 @@ fn sums_to(alloc: Global, f: Expr, a: i64, want: Expr) -> Result<bool, AllocErro
 /// Whether the sum of f from a on isn't plain.
 fn is_left(alloc: Global, f: Expr, a: i64) -> Result<bool, AllocError> {
     Ok(closed_form(alloc, &f, a)?.is_none())
-}
-
-#[test]
-fn sums_of_steep_polynomials(rt: HostRuntime) -> Result<(), Fail> {
-    let alloc = rt.alloc();
-    let f = power(alloc, 2)?;
-    assert!(rt; sums_to(alloc, f, -2, squares(alloc)?)?);
-    let f = power(alloc, 2)?;
-    let f = minus(alloc, f)?;
-    assert!(rt; sums_to(alloc, f, -2, minus(alloc, squares(alloc)?)?)?);
-    let f = fourth(alloc)?;
-    assert!(rt; sums_to(alloc, f, 1, fourth_sum(alloc)?)?);
-    Ok(())
 }
 
 /// 0, k and -5.

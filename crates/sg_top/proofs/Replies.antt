@@ -1,4 +1,5 @@
 -- From what the calls below answer to what is said of an answer.
+--   admitted                        expressions that pass the tests, as the tower asks for them
 --   later-reply, taken-reply, closed-reply, wide-reply     the replies to a sum
 --   nested-closed, nested-none      those over sums
 --   not-lone                        what is no expression alone may be wide
@@ -7,7 +8,8 @@
 --   far-refusal, pole-refusal, factor-refusal    the lines of poles
 --   stop-keeps, stop-heavy      a step that doesn't fit in their place
 --   value-reply                 the replies of an evaluation
-use Rattle.std.proofs.Common.{◌≡◌, ℕ, ℤ, List, [], ◌∷◌, ◌++◌, length, map, Option, Some, None, codes, pos, refl, sym, ap, ap₂, subst, ◌∙◌, ◌⊎◌, false, inl, inr}
+use Rattle.std.proofs.Common.{◌≡◌, ℕ, ℤ, List, [], ◌∷◌, ◌++◌, length, map, Option, Some, None, codes, pos, negsuc, ◌≤ℤ◌, refl, sym, ap, ap₂, subst, ◌∙◌, ◌⊎◌, false, inl, inr, arith}
+use Rattle.std.proofs.lemmas.Int.{ints}
 use Rattle.std.specs.Fmt.{signed_decimal}
 use Rattle.sg_algebra.specs.Coefficients.{Each}
 use Rattle.sg_expr.specs.Tree.{tree_of}
@@ -17,6 +19,7 @@ use Rattle.sg_spec.specs.Closed.{Closed}
 use Rattle.sg_spec.specs.Canonical.{IsCanonicalOver}
 use Rattle.sg_spec.specs.Faults.{Numbered, parts_from, IsFarNumbered, Vanishes, far_pole, pole, zero_factor}
 use Rattle.sg_spec.specs.Generators.{Over, sums, prods, start}
+use Rattle.sg_spec.specs.Limits.{counted}
 use Rattle.sg_spec.specs.Parts.{divides, is_body}
 use Rattle.sg_spec.specs.Polynomials.{IsPolynomial}
 use Rattle.sg_spec.specs.Printing.{InForm}
@@ -25,6 +28,8 @@ use Rattle.sg_spec.specs.Reading.{Reads}
 use Rattle.sg_spec.specs.Tree.{Tree}
 use Rattle.sg_spec.specs.Value.{val}
 use Rattle.sg_limits.specs.Counts.{IsShown, IsPoleOf, IsFault}
+use Rattle.sg_limits.specs.declared.inspection.Facts.{Facts}
+use Rattle.sg_depth.specs.Commands.{AreAdmitted}
 use Rattle.sg_limits.specs.declared.fault.LimitFault.TheVariants.{Stop as LimitStop}
 use Rattle.sg_num.specs.Stopped.{KeepsWideStep, IsMemory}
 use Rattle.sg_num.specs.declared.step.Stop.{Stop}
@@ -33,19 +38,31 @@ use Rattle.sg_text.specs.PrintedText.{printed}
 use Rattle.sg_value.specs.Answer.{IsValue}
 use Rattle.sg_words.specs.declared.asked.Command.TheVariants.{Sum, Value, ValueAtParameter}
 use Rattle.sg_top.specs.Lines.{item_line, closed_line, none_line, letters_at, part_text}
-use Rattle.sg_nested.specs.Commands.{IsFirstClosed, HasNoFirst}
+use Rattle.sg_nested.specs.Commands.{IsFirstClosed, IsFirstCanonical, HasNoFirst}
+use Rattle.sg_forms_theory.specs.Sums.{AreNew}
 use Rattle.sg_worth_theory.proofs.Plain.{HasNoProduct}
 use Rattle.sg_top.specs.Stages.{IsTaken}
 use Rattle.sg_top.specs.Refusals.{IsPoleRefusal, IsSpared, HasHeavyPart}
 use Rattle.sg_top.specs.Output.{IsValueOutput, IsNarrow}
 use Rattle.sg_top.specs.Answer.{IsCountedReply, IsTakenReply}
-use Rattle.sg_top.specs.Taking.{IsStopped, IsPoleReply, IsValueLine, IsEvaluated, IsRational, Alone, IsFirstLater}
+use Rattle.sg_top.specs.Taking.{AreTested, IsStopped, IsPoleReply, IsValueLine, IsEvaluated, IsRational, Alone, IsFirstLater}
 use Rattle.sg_top.specs.declared.status.Status.{Status}
 use Rattle.sg_top.specs.declared.status.Status.TheVariants.{Done, No, Refused}
 use Rattle.sg_top.proofs.Items.{all-of}
 use Rattle.sg_top.proofs.Parted.{no_sums, no_products, none_spared, first_form}
 
 -- ---- Expressions
+
+pub admitted : (a : ℤ) (facts : Facts) (es : List Tree) → Each (InForm false false) es → counted es ≡ None → negsuc 1000 ≤ℤ a → a ≤ℤ pos 1000 → AreTested a facts es → AreAdmitted a facts es
+admitted a facts es form kept low high tested = record {
+  within = record { form = form; kept = kept; low = low; high = high };
+  plain = tested.plain;
+  spared = tested.spared;
+  facts_are = tested.facts_are;
+}
+
+pub lower : (a : ℤ) → negsuc 999 ≤ℤ a → negsuc 1000 ≤ℤ a
+lower a low = omega (arith, ints, low)
 
 pub later-reply : (a : ℤ) (es : List Tree) (item : ℕ) (line : List ℕ) → IsFirstLater item es → line ≡ item_line (codes "later") item → IsCountedReply (Sum a) es Refused line
 later-reply a es item line l is = inl (
@@ -64,11 +81,24 @@ later-reply a es item line l is = inl (
 pub taken-reply : (a : ℤ) (es : List Tree) (status : Status) (line : List ℕ) → Each HasNoProduct es → IsTakenReply (Sum a) es status line → IsCountedReply (Sum a) es status line
 taken-reply a es status line h reply = inr (all-of (IsTaken (Sum a)) es h, reply)
 
+none-new : (ss : List Tree) → AreNew ss []
+none-new ss = record { places = []; ascending = tt; inside = tt; are = refl; new = tt }
+
 pub closed-reply : (a : ℤ) (f h : Tree) (status : Status) (line : List ℕ) → IsRational f → IsSpared (Sum a) (f ∷ []) → Closed f [] a h a → IsCanonicalOver [] [] h
     → Reads (printed (codes "m") h) (codes "m") h → status ≡ Done → line ≡ closed_line (printed (codes "m") h) a → IsTakenReply (Sum a) (f ∷ []) status line
 closed-reply a f h status line rational spared closed canonical back done is =
-    let over_own : IsCanonicalOver (prods (f ∷ [])) (sums (f ∷ [])) h = rw (no_products f rational, no_sums f rational) canonical in
-    inr (inr (spared, inl (record { status_is = done; form = h; first = a; closed = closed; canonical = over_own; reads_back = back; is = is })))
+    let over_own : IsCanonicalOver (prods (f ∷ [])) [] h = rw (no_products f rational) canonical in
+    inr (inr (spared, inl (record {
+      status_is = done;
+      form = h;
+      first = a;
+      closed = closed;
+      new = [];
+      new_are = none-new (sums (f ∷ []));
+      canonical = over_own;
+      reads_back = back;
+      is = is;
+    })))
 
 pub wide-reply : (a : ℤ) (es : List Tree) (status : Status) (line : List ℕ) → (IsSpared (Sum a) es ⊎ HasHeavyPart (Sum a) es) → IsStopped status line → (IsNarrow (Sum a) es → ⊥) → IsTakenReply (Sum a) es status line
 wide-reply a es status line spared s narrow = inr (inl (s.wide, record { step = s.step; cause = s.too_wide; spared = spared; not_narrow = narrow; is = s.is }))
@@ -78,11 +108,21 @@ not-lone a [] h n = n
 not-lone a (x ∷ []) h n = h refl
 not-lone a (x ∷ (y ∷ items)) h n = n
 
-pub nested-closed : (a : ℤ) (es : List Tree) (s : ℤ) (h : Tree) (status : Status) (line : List ℕ) → IsSpared (Sum a) es → s ≡ start es a → IsFirstClosed a es h → IsCanonicalOver (prods es) (sums es) h
+pub nested-closed : (a : ℤ) (es : List Tree) (s : ℤ) (h : Tree) (status : Status) (line : List ℕ) → IsSpared (Sum a) es → s ≡ start es a → IsFirstClosed a es h → IsFirstCanonical es h
     → Reads (printed (codes "m") h) (codes "m") h → status ≡ Done → line ≡ closed_line (printed (codes "m") h) s → IsTakenReply (Sum a) es status line
 nested-closed a [] s h status line spared e closed canonical back done is = absurd closed
 nested-closed a (f ∷ others) s h status line spared e closed canonical back done is =
-    inr (inr (spared, inl (record { status_is = done; form = h; first = start (f ∷ others) a; closed = closed; canonical = canonical; reads_back = back; is = is ∙ ap (closed_line (printed (codes "m") h)) e })))
+    inr (inr (spared, inl (record {
+      status_is = done;
+      form = h;
+      first = start (f ∷ others) a;
+      closed = closed;
+      new = canonical.0;
+      new_are = canonical.1;
+      canonical = canonical.2;
+      reads_back = back;
+      is = is ∙ ap (closed_line (printed (codes "m") h)) e;
+    })))
 
 pub nested-none : (a : ℤ) (es ps ss : List Tree) (status : Status) (line : List ℕ) → IsSpared (Sum a) es → ps ≡ prods es → ss ≡ sums es → HasNoFirst es → status ≡ No → line ≡ none_line (ps ++ ss) → IsTakenReply (Sum a) es status line
 nested-none a [] ps ss status line spared p q never done is = absurd never

@@ -1,5 +1,6 @@
 -- What an answer says of the expressions of a command's texts, once no refusal touches them.
---   IsClosedLine      `closed <h> from <s>`: h is a canonical closed form, whose text is the one that is printed for it
+--   IsClosedLine      `closed <h> from <s>`: h is a closed form, canonical over some of the sums, each of them new over all those before it; its text is the
+--                     one that is printed for it
 --   IsNoneLine        `none over k, <sums>`: no expression over the sums of the texts, which may stand in divisors, telescopes f, from no point on
 --   AreTowerLines     a line a sum of f, in the order of the sums: `free <g>` exactly where no expression over the sums before, which may stand in
 --                     divisors, agrees with g from any point on; else `<g> = <h> from <s>`: h is g in canonical form over new sums before, from s on
@@ -32,7 +33,7 @@ use Rattle.sg_text.specs.RationalText.{rational_text}
 use Rattle.sg_value.specs.Answer.{step_of}
 use Rattle.sg_words.specs.declared.asked.Command.{Command}
 use Rattle.sg_words.specs.declared.asked.Command.TheVariants.{Sum, Tower, Simplify, Check, Value, ValueAtParameter}
-use Rattle.sg_forms_theory.specs.Sums.{AreStandings, IsSimplest}
+use Rattle.sg_forms_theory.specs.Sums.{AreNew, AreStandings, IsSimplest}
 use Rattle.sg_forms_theory.specs.Checks.{TelescopesFrom, FailsBeyond}
 use Rattle.sg_forms.specs.Wholes.{IsWhole}
 use Rattle.sg_top.specs.Lines.{closed_line, none_line, tower_lines, form_line, yes_line}
@@ -44,7 +45,9 @@ pub record IsClosedLine (a : ℤ) (f : Tree) (others : List Tree) (status : Stat
   pub form : Tree
   pub first : ℤ
   pub closed : Closed f others a form first
-  pub canonical : IsCanonicalOver (prods (f ∷ others)) (sums (f ∷ others)) form
+  pub new : List Tree
+  pub new_are : AreNew (sums (f ∷ others)) new
+  pub canonical : IsCanonicalOver (prods (f ∷ others)) new form
   pub reads_back : Reads (printed (codes "m") form) (codes "m") form
   pub is : out ≡ closed_line (printed (codes "m") form) first
 

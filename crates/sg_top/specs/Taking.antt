@@ -6,7 +6,6 @@
 --   Alone          there is one expression alone, and it is such
 --   IsFirstLater   the expression at this place, counted from 1, is the first that holds a product
 --   IsLimited      a lower limit is from -1,000 to 1,000
---   AreAdmitted    expressions that pass all tests of `sum`, with these facts; they are none of those for which no step is wide
 --   AreTested      expressions without products, no part of whose divisors is 0, of which these are the facts
 --   IsTestReply    the reply where they aren't: the line of the first with a product, or what the search for poles answers
 --   IsToldReply    the lines of what the sums are over those before them; or a step that doesn't fit, where there is a sum
@@ -39,7 +38,7 @@ use Rattle.sg_top.specs.Lines.{wide_line, item_line}
 use Rattle.sg_worth_theory.proofs.Plain.{HasNoProduct}
 use Rattle.sg_top.specs.Stages.{letters_of, AreRead}
 use Rattle.sg_top.specs.Refusals.{IsTextRefusal, IsCountRefusal, IsPoleRefusal, IsSpared, HasHeavyPart}
-use Rattle.sg_top.specs.Output.{IsTowerOutput, IsValueOutput, IsNarrow}
+use Rattle.sg_top.specs.Output.{IsTowerOutput, IsValueOutput}
 use Rattle.sg_top.specs.declared.status.Status.{Status}
 use Rattle.sg_top.specs.declared.status.Status.TheVariants.{Done, No, Refused, Wide}
 use Rattle.sg_top.specs.declared.taken.Taken.{Taken}
@@ -80,16 +79,6 @@ IsLimited (Simplify a) = (negsuc 999 ≤ℤ a) × (a ≤ℤ pos 1000)
 IsLimited (Check a) = (negsuc 999 ≤ℤ a) × (a ≤ℤ pos 1000)
 IsLimited (Value k) = Unit {0}
 IsLimited (ValueAtParameter n k) = Unit {0}
-
-pub record AreAdmitted (a : ℤ) (facts : Facts) (es : List Tree) : Type 0 where
-  pub form : Each (InForm false false) es
-  pub plain : Each HasNoProduct es
-  pub kept : counted es ≡ None
-  pub not_narrow : IsNarrow (Sum a) es → ⊥
-  pub low : negsuc 999 ≤ℤ a
-  pub high : a ≤ℤ pos 1000
-  pub spared : IsSpared (Sum a) es
-  pub facts_are : AreFacts facts (Some a) es
 
 pub record AreTested (a : ℤ) (facts : Facts) (es : List Tree) : Type 0 where
   pub plain : Each HasNoProduct es

@@ -10,7 +10,8 @@ ghost use Rattle.sg_top.specs.Answer.{IsCountedReply, IsTakenReply};
 ghost use Rattle.sg_top.specs.Lines.{closed_line, listed, none_line};
 ghost use Rattle.sg_top.specs.Output.{IsNarrow};
 ghost use Rattle.sg_worth_theory.proofs.Plain.{HasNoProduct};
-ghost use Rattle.sg_top.specs.Taking.{IsFirstLater, AreAdmitted};
+ghost use Rattle.sg_depth.specs.Commands.{AreAdmitted};
+ghost use Rattle.sg_top.specs.Taking.{IsFirstLater};
 ghost use Rattle.sg_top.specs.declared.status.Status.TheVariants.{Done, No};
 
 use crate::Status;
@@ -130,6 +131,7 @@ fn nested_reply(
 ) -> Result<Reply, AllocError>
     requires some { 0 < length items.now }
     requires admitted { AreAdmitted a facts.now (map tree_of items.now) }
+    requires not_narrow { IsNarrow (Sum a) (map tree_of items.now) → ⊥ }
     ensures { IfOk result (λ r. IsTakenReply (Sum a) (map tree_of items.now) r.status r.text.items) }
 {
     match nested_closed(alloc, facts, items, a) {

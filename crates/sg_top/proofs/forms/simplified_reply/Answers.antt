@@ -4,6 +4,7 @@ use Rattle.std.proofs.lemmas.Int.{to_z-of_z}
 use Rattle.std.proofs.lemmas.List.{length-map}
 use Rattle.sg_expr.specs.Tree.{tree_of}
 use Rattle.sg_top.proofs.Simplifying.{simplified-line, simplified-wide}
+use Rattle.sg_top.proofs.Replies.{admitted, lower}
 use Rattle.sg_top.proofs.forms.simplified_reply.Goals as goal
 
 pub returns-in_ok-reply-in-Ok : goal.returns-in_ok-reply-in-Ok
@@ -17,3 +18,7 @@ returns-in_ok-reply-in-Ok c =
 pub returns-in_ok-reply-in-Err : goal.returns-in_ok-reply-in-Err
 returns-in_ok-reply-in-Err c =
     simplified-wide c.args.a (map tree_of c.args.items.now) c.in_ok-reply-in-Err.reply.status c.in_ok-reply-in-Err.reply.text.items (inl c.requires.tested.spared) c.in_ok-reply-in-Err.ensures.line
+
+pub simplified-requires-clause-admitted : goal.simplified-requires-clause-admitted
+simplified-requires-clause-admitted c =
+    admitted c.args.a c.args.facts.now (map tree_of c.args.items.now) c.requires.form c.requires.kept (lower c.args.a c.requires.low) c.requires.high c.requires.tested

@@ -3,7 +3,7 @@ use Rattle.std.specs.Int.{w64}
 use Rattle.std.proofs.lemmas.Int.{to_z-of_z}
 use Rattle.sg_expr.specs.Tree.{tree_of}
 use Rattle.sg_top.proofs.Parted.{all_known}
-use Rattle.sg_top.proofs.Replies.{later-reply, taken-reply, pole-taken}
+use Rattle.sg_top.proofs.Replies.{lower, later-reply, taken-reply, pole-taken}
 use Rattle.sg_top.proofs.sums.tested_reply.Goals as goal
 
 pub inspect-requires-clause-form : goal.inspect-requires-clause-form
@@ -13,12 +13,8 @@ pub nested_reply-requires-clause-admitted : goal.nested_reply-requires-clause-ad
 nested_reply-requires-clause-admitted c =
     let fits : FitsSigned w64 c.args.a = c.ranges.a in
     simp to_z-of_z (record {
-      form = c.requires.form;
+      within = record { form = c.requires.form; kept = c.requires.kept; low = lower c.args.a c.requires.low; high = c.requires.high };
       plain = rw c.as_slice.ensures at c.in-None.ensures;
-      kept = c.requires.kept;
-      not_narrow = c.requires.not_narrow;
-      low = c.requires.low;
-      high = c.requires.high;
       spared = simp to_z-of_z at c.in-Ok.ensures.spared;
       facts_are = simp to_z-of_z at c.in-Ok.ensures.facts;
     })

@@ -1,10 +1,11 @@
-use Rattle.std.proofs.Common.{FitsSigned, map, refl, inl, ◌∙◌, rules}
+use Rattle.std.proofs.Common.{FitsSigned, negsuc, arith, map, refl, inl, ◌∙◌, rules}
 use Rattle.std.specs.Int.{w64}
-use Rattle.std.proofs.lemmas.Int.{to_z-of_z}
+use Rattle.std.proofs.lemmas.Int.{ints, to_z-of_z}
 use Rattle.std.proofs.lemmas.List.{length-map}
 use Rattle.sg_expr.specs.Tree.{tree_of}
 use Rattle.sg_depth.proofs.Inspected.{sums_form}
 use Rattle.sg_top.proofs.Telling.{empty-told, sums-told, told-count, some-sums, none-sums}
+use Rattle.sg_top.proofs.Replies.{admitted}
 use Rattle.sg_top.proofs.tower.told_reply.Goals as goal
 
 pub told_text-requires-clause-sums : goal.told_text-requires-clause-sums
@@ -32,3 +33,8 @@ returns-in_ok-reply-in-Err c =
       c.in_ok-reply-in-Err.ensures.line,
       some-sums c.args.facts.now.sums _ c.is_empty.result c.is_empty.ensures c.if-is_empty.false c.requires.tested.facts_are.sums_are,
     )
+
+pub standings-requires : goal.standings-requires
+standings-requires c = record {
+  admitted = admitted (negsuc 1000) c.args.facts.now (map tree_of c.args.items.now) c.requires.form c.requires.kept (omega (arith, ints)) (omega (arith, ints)) c.requires.tested;
+}

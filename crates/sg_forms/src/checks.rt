@@ -65,11 +65,7 @@ impl Job<Rat> for Check {
 
     ghost done = { IsCheckOf };
 
-    fn run<T: Tower<K = Rat>>(
-        self,
-        alloc: Global,
-        built: &Built<'_, T>,
-    ) -> Result<bool, Stop> {
+    fn run<T: Tower<K = Rat>>(self, alloc: Global, built: &Built<'_, T>) -> Result<bool, Stop> {
         let holds = telescopes_in(alloc, built, &self.summand, &self.antidifference)?;
         Ok(holds)
     }

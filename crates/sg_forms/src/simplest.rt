@@ -63,11 +63,7 @@ impl Job<Rat> for Simplification {
 
     ghost done = { IsSimplestForm };
 
-    fn run<T: Tower<K = Rat>>(
-        self,
-        alloc: Global,
-        built: &Built<'_, T>,
-    ) -> Result<Expr, Stop> {
+    fn run<T: Tower<K = Rat>>(self, alloc: Global, built: &Built<'_, T>) -> Result<Expr, Stop> {
         let h = simplest_in(alloc, built, &self.expression)?;
         Ok(h)
     }

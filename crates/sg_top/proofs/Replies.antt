@@ -88,17 +88,20 @@ pub closed-reply : (a : ℤ) (f h : Tree) (status : Status) (line : List ℕ) �
     → Reads (printed (codes "m") h) (codes "m") h → status ≡ Done → line ≡ closed_line (printed (codes "m") h) a → IsTakenReply (Sum a) (f ∷ []) status line
 closed-reply a f h status line rational spared closed canonical back done is =
     let over_own : IsCanonicalOver (prods (f ∷ [])) [] h = rw (no_products f rational) canonical in
-    inr (inr (spared, inl (record {
-      status_is = done;
-      form = h;
-      first = a;
-      closed = closed;
-      new = [];
-      new_are = none-new (sums (f ∷ []));
-      canonical = over_own;
-      reads_back = back;
-      is = is;
-    })))
+    inr (inr (
+      spared,
+      inl (record {
+        status_is = done;
+        form = h;
+        first = a;
+        closed = closed;
+        new = [];
+        new_are = none-new (sums (f ∷ []));
+        canonical = over_own;
+        reads_back = back;
+        is = is;
+      }),
+    ))
 
 pub wide-reply : (a : ℤ) (es : List Tree) (status : Status) (line : List ℕ) → (IsSpared (Sum a) es ⊎ HasHeavyPart (Sum a) es) → IsStopped status line → (IsNarrow (Sum a) es → ⊥) → IsTakenReply (Sum a) es status line
 wide-reply a es status line spared s narrow = inr (inl (s.wide, record { step = s.step; cause = s.too_wide; spared = spared; not_narrow = narrow; is = s.is }))
@@ -112,17 +115,20 @@ pub nested-closed : (a : ℤ) (es : List Tree) (s : ℤ) (h : Tree) (status : St
     → Reads (printed (codes "m") h) (codes "m") h → status ≡ Done → line ≡ closed_line (printed (codes "m") h) s → IsTakenReply (Sum a) es status line
 nested-closed a [] s h status line spared e closed canonical back done is = absurd closed
 nested-closed a (f ∷ others) s h status line spared e closed canonical back done is =
-    inr (inr (spared, inl (record {
-      status_is = done;
-      form = h;
-      first = start (f ∷ others) a;
-      closed = closed;
-      new = canonical.0;
-      new_are = canonical.1;
-      canonical = canonical.2;
-      reads_back = back;
-      is = is ∙ ap (closed_line (printed (codes "m") h)) e;
-    })))
+    inr (inr (
+      spared,
+      inl (record {
+        status_is = done;
+        form = h;
+        first = start (f ∷ others) a;
+        closed = closed;
+        new = canonical.0;
+        new_are = canonical.1;
+        canonical = canonical.2;
+        reads_back = back;
+        is = is ∙ ap (closed_line (printed (codes "m") h)) e;
+      }),
+    ))
 
 pub nested-none : (a : ℤ) (es ps ss : List Tree) (status : Status) (line : List ℕ) → IsSpared (Sum a) es → ps ≡ prods es → ss ≡ sums es → HasNoFirst es → status ≡ No → line ≡ none_line (ps ++ ss) → IsTakenReply (Sum a) es status line
 nested-none a [] ps ss status line spared p q never done is = absurd never

@@ -28,8 +28,8 @@ pub start_of_element-requires : goal.start_of_element-requires
 start_of_element-requires g c =
     let n = next-of c.args.build.now.facts.now (g.T.Tower.reading g.F.Field.vars g.F.Field.val c.args.build.now.tower) c.args.build.now.free_gens c.args.build.now.known c.args.build.now.state c.requires.inside in
     record {
-  one_each = sym (length-map c.in_ok-gens.gens g.F.Field.val) ∙ one-each c.args.build.now.facts.now (g.T.Tower.reading g.F.Field.vars g.F.Field.val c.args.build.now.tower) c.args.build.now.free_gens c.args.build.now.known n.0 n.1 (map g.F.Field.val c.in_ok-gens.gens) c.in_ok-gens.ensures.values;
-}
+      one_each = sym (length-map c.in_ok-gens.gens g.F.Field.val) ∙ one-each c.args.build.now.facts.now (g.T.Tower.reading g.F.Field.vars g.F.Field.val c.args.build.now.tower) c.args.build.now.free_gens c.args.build.now.known n.0 n.1 (map g.F.Field.val c.in_ok-gens.gens) c.in_ok-gens.ensures.values;
+    }
 
 pub unreachable-requires : goal.unreachable-requires
 unreachable-requires g c =

@@ -1,12 +1,11 @@
 -- The next sum, from what the calls answer.
---   next-of                      where the tower stands over the first sums, but not over all, a next one is left
 --   next-inside, next-letter     there is one, and it holds no parameter over the fractions
 --   is-sum                       it is a sum
 --   built-is, somewhere-is       its body is built over those before it, and it has a value somewhere
 --   difference-is                the shifted element of its body
 --   has-start                    what telescopes it has a value at the start
 --   new-fate, known-fate         what it is
-use Rattle.std.proofs.Common.{◌≡◌, ℕ, zero, suc, ◌<◌, ℤ, refl, sym, ap, ap₂, ◌∙◌, subst, List, [], ◌∷◌, ◌++◌, length, map, take, get_or, All, arith}
+use Rattle.std.proofs.Common.{◌≡◌, ℕ, suc, ◌<◌, ℤ, refl, sym, ap, ap₂, ◌∙◌, subst, List, [], ◌∷◌, ◌++◌, length, map, take, get_or, All, arith}
 use Rattle.std.proofs.lemmas.List.{length-map, get_or-map, take-map}
 use Rattle.std.proofs.lemmas.List.Elements.{All-get_or}
 use Rattle.sg_algebra.proofs.Value.{Value}
@@ -25,17 +24,12 @@ use Rattle.sg_build.specs.Points.{AreUnits, HasPlace, IsPlaced}
 use Rattle.sg_limits.specs.declared.inspection.Facts.{Facts}
 use Rattle.sg_depth.specs.declared.fate.Fate.TheVariants.{New, Known}
 use Rattle.sg_depth.specs.Commands.{sums_of, prods_of}
-use Rattle.sg_depth.specs.Building.{IsBuilt, IsBuiltTo, IsPlacedNext, IsLevelledTo, HasStart}
+use Rattle.sg_depth.specs.Building.{IsBuilt, IsPlacedNext, IsLevelledTo, HasStart}
 use Rattle.sg_depth.specs.Fates.{IsFate}
 
 -- the first items of a list of which so many are read
 pub before_is : {E : Type 0} (front all sums : List Expr) (n : ℕ) (known : List E) → front ≡ take n all → n ≡ length known → all ≡ sums → front ≡ take (length known) sums
 before_is front all sums n known f l a = f ∙ ap₂ take l a
-
-pub next-of : {d : ℕ} {E : Type 0} (facts : Facts) (ρ : Reading d E) (places : List ℕ) (known : List E) → IsBuilt facts ρ places known → length known < length (sums_of facts)
-    → (r : ℕ) × IsBuiltTo facts (suc r) ρ places known
-next-of facts ρ places known (zero, b) l = absurd (let m = length-map known ρ.of in let e = b.state.left in omega (arith, m, e, l))
-next-of facts ρ places known (suc r, b) l = (r, b)
 
 module _ {d : ℕ} {E : Type 0} (facts : Facts) (ρ : Reading d E) (places : List ℕ) (known : List E) where
   abbrev ss : List Tree
@@ -48,10 +42,10 @@ module _ {d : ℕ} {E : Type 0} (facts : Facts) (ρ : Reading d E) (places : Lis
   L = letter d
 
   -- there are no products yet
-  no-products : (r : ℕ) → IsBuiltTo facts (suc r) ρ places known → ps ≡ []
+  no-products : (r : ℕ) → IsBuilt facts (suc r) ρ places known → ps ≡ []
   no-products r built = built.state.sound.no_products
 
-  module _ (r : ℕ) (b : IsBuiltTo facts (suc r) ρ places known) where
+  module _ (r : ℕ) (b : IsBuilt facts (suc r) ρ places known) where
     pub next-inside : length known < length ss
     next-inside = item-inside L facts.start ps ss ρ.formal ρ.of places known r b.state
 

@@ -33,7 +33,7 @@ use Rattle.sg_build.specs.Letters.{letter, HasNoLetter}
 use Rattle.sg_build.specs.Points.{IsPointAt}
 use Rattle.sg_limits.specs.declared.inspection.Facts.{Facts}
 use Rattle.sg_depth.specs.Commands.{AreSound, sums_of, prods_of}
-use Rattle.sg_depth.specs.Building.{IsBuiltTo, HasStart, IsConstant, IsRaisedBy, IsLevelledTo, AreStartValues, HasAtStart, HasNoneAtStart, earlier}
+use Rattle.sg_depth.specs.Building.{IsBuilt, HasStart, IsConstant, IsRaisedBy, IsLevelledTo, AreStartValues, HasAtStart, HasNoneAtStart, earlier}
 use Rattle.sg_depth.proofs.Calls.{next-inside}
 
 module _ {d : ℕ} (R : Tree → Value d → Type 0) (ss : List Tree) where
@@ -74,7 +74,7 @@ module _ {d : ℕ} (facts : Facts) (sound : AreSound (letter d) facts) where
     pub value-at : (v : Value d) × HasWorth (letter d) (tree_of e) facts.start v
     value-at = subst (λ (g : Tree). (v : Value d) × HasWorth (letter d) g facts.start v) read-at (has-value p place-inside)
 
-module _ {d : ℕ} {E : Type 0} (facts : Facts) (ρ : Reading d E) (places : List ℕ) (known : List E) (r : ℕ) (b : IsBuiltTo facts (suc r) ρ places known) where
+module _ {d : ℕ} {E : Type 0} (facts : Facts) (ρ : Reading d E) (places : List ℕ) (known : List E) (r : ℕ) (b : IsBuilt facts (suc r) ρ places known) where
   abbrev ss : List Tree
   ss = sums_of facts
 

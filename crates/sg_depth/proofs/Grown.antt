@@ -17,8 +17,8 @@ use Rattle.sg_tower.specs.Terms.{IsGenerator, own_generator, own_product}
 use Rattle.sg_build.specs.Letters.{letter, HasNoLetter}
 use Rattle.sg_limits.specs.declared.inspection.Facts.{Facts}
 use Rattle.sg_depth.specs.declared.fate.Fate.TheVariants.{New, Known}
-use Rattle.sg_depth.specs.Commands.{AreSound, StandsOver, sums_of, prods_of}
-use Rattle.sg_depth.specs.Building.{IsBuilt, IsBuiltTo, IsOwnOf, IsGrown}
+use Rattle.sg_depth.specs.Commands.{AreSound, StandsOver, StandsOverAll, sums_of, prods_of}
+use Rattle.sg_depth.specs.Building.{IsBuilt, IsOwnOf, IsGrown}
 use Rattle.sg_depth.specs.Fates.{IsFate}
 
 same-eqb : (n : ℕ) → (n == n) ≡ true
@@ -54,28 +54,30 @@ module _ {d : ℕ} {E : Type 0} (ρ : Reading d E) (b : E) where
   last-inside ρ' i e j = subst (λ (σ : Reading d (List E)). i < length σ.formal.products + σ.formal.sums) (sym e) (omega (arith, j))
 
 module _ {d : ℕ} {E : Type 0} (facts : Facts) (ρ : Reading d E) (places : List ℕ) (known : List E) where
-  pub few : (r : ℕ) → IsBuiltTo facts (suc r) ρ places known → length known ≤ 8
+  pub few : (r : ℕ) → IsBuilt facts (suc r) ρ places known → length known ≤ 8
   few r b = let l = b.state.left in let m = length-map known ρ.of in let f = b.state.sound.few in omega (arith, l, m, f)
 
-  pub room : (r : ℕ) → IsBuiltTo facts (suc r) ρ places known → ρ.formal.sums < 64
+  pub room : (r : ℕ) → IsBuilt facts (suc r) ρ places known → ρ.formal.sums < 64
   room r b = let s = few_sums (letter d) facts.start (prods_of facts) (sums_of facts) (suc r) ρ.formal places (map ρ.of known) b.state in let m = length-map known ρ.of in let f = few r b in omega (arith, s, m, f)
 
-  pub grown-built : (b : E) (ρ' : Reading d (List E)) (places' : List ℕ) (known' : List (List E)) (r : ℕ) → IsGrown ρ b places known ρ' places' known' → IsFate facts ρ places known (New b) → IsBuiltTo facts (suc r) ρ places known → IsBuiltTo facts r ρ' places' known'
+  pub grown-built : (b : E) (ρ' : Reading d (List E)) (places' : List ℕ) (known' : List (List E)) (r : ℕ) → IsGrown ρ b places known ρ' places' known' → IsFate facts ρ places known (New b) → IsBuilt facts (suc r) ρ places known → IsBuilt facts r ρ' places' known'
   grown-built b ρ' places' known' r g fate built =
-      subst (λ (σ : Reading d (List E)). IsBuiltTo facts r σ places' known') (sym g.reading_is)
-      (subst (λ (is : List ℕ). IsBuiltTo facts r (raised ρ b) is known') (sym g.places_are)
-      (subst (λ (xs : List (List E)). IsBuiltTo facts r (raised ρ b) (places ++ length known ∷ []) xs) (sym g.known_are) (fate.1 g.own g.own_is r built)))
+      subst (λ (σ : Reading d (List E)). IsBuilt facts r σ places' known') (sym g.reading_is)
+      (subst (λ (is : List ℕ). IsBuilt facts r (raised ρ b) is known') (sym g.places_are)
+      (subst (λ (xs : List (List E)). IsBuilt facts r (raised ρ b) (places ++ length known ∷ []) xs) (sym g.known_are) (fate.1 g.own g.own_is r built)))
 
-  pub known-built : (h : E) (known' : List E) (r : ℕ) → known' ≡ known ++ h ∷ [] → IsFate facts ρ places known (Known h) → IsBuiltTo facts (suc r) ρ places known → IsBuiltTo facts r ρ places known'
-  known-built h known' r e fate built = subst (λ (xs : List E). IsBuiltTo facts r ρ places xs) (sym e) (fate r built)
+  pub known-built : (h : E) (known' : List E) (r : ℕ) → known' ≡ known ++ h ∷ [] → IsFate facts ρ places known (Known h) → IsBuilt facts (suc r) ρ places known → IsBuilt facts r ρ places known'
+  known-built h known' r e fate built = subst (λ (xs : List E). IsBuilt facts r ρ places xs) (sym e) (fate r built)
 
   -- where no sum is left
-  pub stands : IsBuilt facts ρ places known → length (sums_of facts) ≡ length known → StandsOver (letter d) facts ρ places known
-  stands b all =
-      let z : b.0 ≡ 0 = let m = length-map known ρ.of in let e = b.1.state.left in omega (arith, m, e, all) in
-      whole (letter d) facts.start (prods_of facts) (sums_of facts) b.0 ρ.formal places (map ρ.of known) b.1.state z
+  pub stands : IsBuilt facts 0 ρ places known → StandsOverAll facts ρ places known
+  stands b = record {
+    sound = b.state.sound;
+    no_letter = b.no_letter;
+    stands = whole (letter d) facts.start (prods_of facts) (sums_of facts) 0 ρ.formal places (map ρ.of known) b.state refl;
+  }
 
 pub begun-built : {d : ℕ} {E : Type 0} (facts : Facts) (m : E → Element rational) (places : List ℕ) (known : List E) → AreSound (letter d) facts → All (HasNoLetter d) (sums_of facts) → places ≡ [] → known ≡ []
-    → IsBuilt facts (record { formal = rational {d = d}; of = m }) places known
+    → IsBuilt facts (length (sums_of facts)) (record { formal = rational {d = d}; of = m }) places known
 begun-built {d} facts m places known sound no_letter e k =
-    (length (sums_of facts), record { no_letter = no_letter; state = begun (letter d) facts.start (prods_of facts) (sums_of facts) places (map m known) sound e (ap (map m) k) })
+    record { no_letter = no_letter; state = begun (letter d) facts.start (prods_of facts) (sums_of facts) places (map m known) sound e (ap (map m) k) }

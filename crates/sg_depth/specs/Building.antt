@@ -1,6 +1,5 @@
 -- How far a tower over the sums of a command has come, and what its next sum is. ρ says which formal tower it is and which of its elements an item stands for.
---   IsBuiltTo facts r ρ places known   the tower stands over all but the last r of the sums: its own are those at the places, and known are the elements of all before these
---   IsBuilt facts ρ places known       it stands over the first ones, however many are left
+--   IsBuilt facts r ρ places known   the tower stands over all but the last r of the sums: its own are those at the places, and known are the elements of all before these
 --   earlier facts known                the sums whose elements are known
 --   IsOwnOf ρ b own                    own is the new sum on top, which grows by b
 --   IsGrown ρ b places known ρ' ..     the tower with the new sum, the places and the known elements with it
@@ -27,12 +26,9 @@ use Rattle.sg_build.specs.Points.{IsPointAt}
 use Rattle.sg_limits.specs.declared.inspection.Facts.{Facts}
 use Rattle.sg_depth.specs.Commands.{sums_of, prods_of}
 
-pub record IsBuiltTo {d : ℕ} {E : Type 0} (facts : Facts) (r : ℕ) (ρ : Reading d E) (places : List ℕ) (known : List E) : Type 0 where
+pub record IsBuilt {d : ℕ} {E : Type 0} (facts : Facts) (r : ℕ) (ρ : Reading d E) (places : List ℕ) (known : List E) : Type 0 where
   pub no_letter : All (HasNoLetter d) (sums_of facts)
   pub state : Stands (letter d) facts.start (prods_of facts) (sums_of facts) r ρ.formal places (map ρ.of known)
-
-abbrev pub IsBuilt : {d : ℕ} {E : Type 0} → Facts → Reading d E → List ℕ → List E → Type 0
-IsBuilt facts ρ places known = (r : ℕ) × IsBuiltTo facts r ρ places known
 
 abbrev pub earlier : {E : Type 0} → Facts → List E → List Tree
 earlier facts known = take (length known) (sums_of facts)

@@ -5,9 +5,9 @@ use Rattle.sg_tower.specs.Elements.{Reading, IsNewSum, raised}
 use Rattle.sg_limits.specs.declared.inspection.Facts.{Facts}
 use Rattle.sg_depth.specs.declared.fate.Fate.{Fate}
 use Rattle.sg_depth.specs.declared.fate.Fate.TheVariants.{New, Known}
-use Rattle.sg_depth.specs.Building.{IsBuiltTo, IsOwnOf}
+use Rattle.sg_depth.specs.Building.{IsBuilt, IsOwnOf}
 
 abbrev pub IsFate : {d : ℕ} {E : Type 0} → Facts → Reading d E → List ℕ → List E → Fate E → Type 0
 IsFate {d} {E} facts ρ places known (New b) =
-    IsNewSum ρ b × ((own : List E) → IsOwnOf ρ b own → (r : ℕ) → IsBuiltTo facts (suc r) ρ places known → IsBuiltTo facts r (raised ρ b) (places ++ length known ∷ []) (map (λ e. e ∷ []) known ++ own ∷ []))
-IsFate {d} {E} facts ρ places known (Known h) = (r : ℕ) → IsBuiltTo facts (suc r) ρ places known → IsBuiltTo facts r ρ places (known ++ h ∷ [])
+    IsNewSum ρ b × ((own : List E) → IsOwnOf ρ b own → (r : ℕ) → IsBuilt facts (suc r) ρ places known → IsBuilt facts r (raised ρ b) (places ++ length known ∷ []) (map (λ e. e ∷ []) known ++ own ∷ []))
+IsFate {d} {E} facts ρ places known (Known h) = (r : ℕ) → IsBuilt facts (suc r) ρ places known → IsBuilt facts r ρ places (known ++ h ∷ [])

@@ -1,36 +1,35 @@
-ghost use Rattle.std.specs.Prelude.{◌≡◌, suc, ◌<◌, ◌≤◌, [], ◌∷◌, length, map, IfOk, IfErr};
+ghost use Rattle.std.specs.Prelude.{◌≡◌, ℕ, suc, ◌<◌, ◌≤◌, [], ◌∷◌, length, map, IfOk, IfErr};
 ghost use Rattle.sg_num.specs.Stopped.{KeepsWideStep};
 ghost use Rattle.sg_tower.specs.Elements.{IsNewSum};
-ghost use Rattle.sg_depth.specs.Commands.{sums_of};
-ghost use Rattle.sg_depth.specs.Building.{IsGrown};
+ghost use Rattle.sg_depth.specs.Building.{IsBuilt, IsGrown};
 ghost use Rattle.sg_depth.specs.Fates.{IsFate};
 ghost use Rattle.sg_depth.specs.declared.fate.Fate.TheVariants.{New, Known};
 
-use crate::towers::{Build, Built};
+use crate::towers::Built;
 use sg_build::Letters;
 use sg_num::{Field, Row, Stop};
 use sg_sums::{Poly1, SumExt};
 use sg_tower::Tower;
 use std::alloc::{AllocError, Global};
 
-/// The build after a sum that this element expresses.
+/// The tower after a sum that this element expresses.
 pub fn expressed<'a, F: Letters, T: Tower<K = F>>(
-    build: Build<'a, T>,
+    built: Built<'a, T>,
     element: T::Elem,
-) -> Result<Build<'a, T>, AllocError>
-    requires next { length build.known < length (sums_of build.facts.now) }
-    requires fate { IsFate build.facts.now (T.reading F.vars F.val build.tower) build.free_gens build.known (Known element) }
-    ensures facts { IfOk result (λ b. b.facts.now ≡ build.entry.facts.now) }
-    ensures more { IfOk result (λ b. length b.known ≡ suc (length build.entry.known)) }
+) -> Result<Built<'a, T>, AllocError>
+    requires fate { IsFate built.facts.now (T.reading F.vars F.val built.tower) built.free_gens built.known (Known element) }
+    ensures facts { IfOk result (λ b. b.facts.now ≡ built.entry.facts.now) }
+    ensures state { IfOk result (λ b. (r : ℕ) → IsBuilt built.entry.facts.now (suc r) (T.reading F.vars F.val built.entry.tower) built.entry.free_gens built.entry.known
+        → IsBuilt b.facts.now r (T.reading F.vars F.val b.tower) b.free_gens b.known) }
 {
-    let Build {
+    let Built {
         facts,
         tower,
         mut known,
         free_gens,
-    } = build;
+    } = built;
     known.push(element)?;
-    Ok(Build {
+    Ok(Built {
         facts,
         tower,
         known,
@@ -38,50 +37,32 @@ pub fn expressed<'a, F: Letters, T: Tower<K = F>>(
     })
 }
 
-/// The build after a new sum, which grows by `beta`: the tower has one level more.
+/// The tower after a new sum, which grows by `beta`: it has one level more.
 pub fn grow<'a, F: Letters, T: Tower<K = F>>(
     alloc: Global,
-    build: Build<'a, T>,
+    built: Built<'a, T>,
     beta: T::Elem,
-) -> Result<Build<'a, SumExt<T>>, Stop>
-    requires next { length build.known < length (sums_of build.facts.now) }
-    requires fate { IsFate build.facts.now (T.reading F.vars F.val build.tower) build.free_gens build.known (New beta) }
-    ensures facts { IfOk result (λ b. b.facts.now ≡ build.entry.facts.now) }
-    ensures more { IfOk result (λ b. length b.known ≡ suc (length build.entry.known)) }
+) -> Result<Built<'a, SumExt<T>>, Stop>
+    requires before { (r : ℕ) × IsBuilt built.facts.now (suc r) (T.reading F.vars F.val built.tower) built.free_gens built.known }
+    requires fate { IsFate built.facts.now (T.reading F.vars F.val built.tower) built.free_gens built.known (New beta) }
+    ensures facts { IfOk result (λ b. b.facts.now ≡ built.entry.facts.now) }
+    ensures state { IfOk result (λ b. (r : ℕ) → IsBuilt built.entry.facts.now (suc r) (T.reading F.vars F.val built.entry.tower) built.entry.free_gens built.entry.known
+        → IsBuilt b.facts.now r (⟦<SumExt<T> as Tower>⟧.reading F.vars F.val b.tower) b.free_gens b.known) }
     ensures wide { IfErr result KeepsWideStep }
 {
-    let Build {
+    let Built {
         facts,
         tower,
         known,
         free_gens,
-    } = build;
+    } = built;
     let grown = grown_by(alloc, tower, known, free_gens, beta)?;
-    Ok(Build {
+    Ok(Built {
         facts,
         tower: grown.tower,
         known: grown.known,
         free_gens: grown.free_gens,
     })
-}
-
-/// The tower over all sums.
-pub fn finished<'a, F: Letters, T: Tower<K = F>>(build: Build<'a, T>) -> Built<'a, T>
-    requires all { length (sums_of build.facts.now) ≡ length build.known }
-    ensures facts { result.facts.now ≡ build.entry.facts.now }
-{
-    let Build {
-        facts,
-        tower,
-        known,
-        free_gens,
-    } = build;
-    Built {
-        facts,
-        tower,
-        known,
-        free_gens,
-    }
 }
 
 // A tower with one more sum, the places of its own sums, and the elements of all sums so far.

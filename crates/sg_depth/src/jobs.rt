@@ -1,5 +1,6 @@
 ghost use Rattle.std.specs.Prelude.{IfOk, IfErr};
 ghost use Rattle.sg_num.specs.Stopped.{KeepsWideStep};
+ghost use Rattle.sg_depth.specs.Commands.{StandsOverAll};
 
 use crate::towers::Built;
 use sg_build::Letters;
@@ -22,6 +23,7 @@ pub trait Job<K: Letters>: Drop {
     /// Does it in this tower.
     fn run<T: Tower<K = K>>(self, alloc: Global, built: &Built<'_, T>) -> Result<Self::Out, Stop>
         requires suitable { suits self built.now.facts.now }
+        requires stands { StandsOverAll built.now.facts.now (T.reading K.vars K.val built.now.tower) built.now.free_gens built.now.known }
         ensures done { IfOk result (done self built.now.facts.now) }
         ensures wide { IfErr result KeepsWideStep };
 }

@@ -1,4 +1,4 @@
-ghost use Rattle.std.specs.Prelude.{◌≡◌, ◌+◌, ◌<◌, length, get_or, map, All, IfOk, IfErr, IfSome, IfNone};
+ghost use Rattle.std.specs.Prelude.{◌≡◌, ℕ, suc, ◌+◌, ◌<◌, length, get_or, map, All, IfOk, IfErr, IfSome, IfNone};
 ghost use Rattle.sg_algebra.specs.Coefficients.{Each};
 ghost use Rattle.sg_algebra.proofs.Value.{Value};
 ghost use Rattle.sg_num.specs.Stopped.{KeepsWideStep};
@@ -6,10 +6,10 @@ ghost use Rattle.sg_spec.specs.Tree.{here};
 ghost use Rattle.sg_expr.specs.Tree.{tree_of};
 ghost use Rattle.sg_spec.specs.Worth.{HasWorth};
 ghost use Rattle.sg_build.specs.Letters.{letter, HasNoLetter};
-ghost use Rattle.sg_depth.specs.Commands.{AreSound, AreNewSums, sums_of};
-ghost use Rattle.sg_depth.specs.Building.{HasStart, IsConstant, IsLevelledTo, IsRaisedBy, AreStartValues, HasAtStart, HasNoneAtStart};
+ghost use Rattle.sg_depth.specs.Commands.{AreSound, AreNewSums, StandsOverAll, sums_of};
+ghost use Rattle.sg_depth.specs.Building.{IsBuilt, HasStart, IsConstant, IsLevelledTo, IsRaisedBy, AreStartValues, HasAtStart, HasNoneAtStart};
 
-use crate::towers::{Build, Built};
+use crate::towers::Built;
 use sg_build::{Letters, elem_at, value_in};
 use sg_expr::Expr;
 use sg_limits::Facts;
@@ -20,18 +20,18 @@ use std::alloc::{AllocError, Global};
 /// The element `y` with the constant that gives it at the start the value of the sum.
 pub fn levelled<F: Letters, T: Tower<K = F>>(
     alloc: Global,
-    build: &Build<'_, T>,
+    built: &Built<'_, T>,
     sum: &Expr,
     y: T::Elem,
 ) -> Result<T::Elem, Stop>
-    requires inside { length build.now.known < length (sums_of build.now.facts.now) }
-    requires next { get_or (sums_of build.now.facts.now) (length build.now.known) here ≡ tree_of sum.now }
-    requires regular { HasStart build.now.facts.now (T.reading F.vars F.val build.now.tower) build.now.free_gens build.now.known y }
-    ensures level { IfOk result (IsLevelledTo build.now.facts.now (T.reading F.vars F.val build.now.tower) build.now.free_gens build.now.known (tree_of sum.now) y) }
+    requires state { (r : ℕ) × IsBuilt built.now.facts.now (suc r) (T.reading F.vars F.val built.now.tower) built.now.free_gens built.now.known }
+    requires next { get_or (sums_of built.now.facts.now) (length built.now.known) here ≡ tree_of sum.now }
+    requires regular { HasStart built.now.facts.now (T.reading F.vars F.val built.now.tower) built.now.free_gens built.now.known y }
+    ensures level { IfOk result (IsLevelledTo built.now.facts.now (T.reading F.vars F.val built.now.tower) built.now.free_gens built.now.known (tree_of sum.now) y) }
     ensures wide { IfErr result KeepsWideStep }
 {
-    let c = missing_constant(alloc, build, sum, &y)?;
-    let h = plus_constant(alloc, &build.tower, y, &c)?;
+    let c = missing_constant(alloc, built, sum, &y)?;
+    let h = plus_constant(alloc, &built.tower, y, &c)?;
     Ok(h)
 }
 
@@ -54,19 +54,19 @@ pub fn plus_constant<F: Letters, T: Tower<K = F>>(
 // What the element lacks at the start of the value of the sum.
 fn missing_constant<F: Letters, T: Tower<K = F>>(
     alloc: Global,
-    build: &Build<'_, T>,
+    built: &Built<'_, T>,
     sum: &Expr,
     y: &T::Elem,
 ) -> Result<F, Stop>
-    requires inside { length build.now.known < length (sums_of build.now.facts.now) }
-    requires next { get_or (sums_of build.now.facts.now) (length build.now.known) here ≡ tree_of sum.now }
-    requires regular { HasStart build.now.facts.now (T.reading F.vars F.val build.now.tower) build.now.free_gens build.now.known y.now }
-    ensures constant { IfOk result (λ c. IsConstant build.now.facts.now (T.reading F.vars F.val build.now.tower) build.now.free_gens build.now.known (tree_of sum.now) y.now (F.val c)) }
+    requires state { (r : ℕ) × IsBuilt built.now.facts.now (suc r) (T.reading F.vars F.val built.now.tower) built.now.free_gens built.now.known }
+    requires next { get_or (sums_of built.now.facts.now) (length built.now.known) here ≡ tree_of sum.now }
+    requires regular { HasStart built.now.facts.now (T.reading F.vars F.val built.now.tower) built.now.free_gens built.now.known y.now }
+    ensures constant { IfOk result (λ c. IsConstant built.now.facts.now (T.reading F.vars F.val built.now.tower) built.now.free_gens built.now.known (tree_of sum.now) y.now (F.val c)) }
     ensures wide { IfErr result KeepsWideStep }
 {
-    let gens: Row<F> = start_values(alloc, build.facts, &build.free_gens)?;
-    let target: F = start_value(alloc, build.facts, sum)?;
-    match start_of_element(alloc, build.facts, &build.tower, y, &gens)? {
+    let gens: Row<F> = start_values(alloc, built.facts, &built.free_gens)?;
+    let target: F = start_value(alloc, built.facts, sum)?;
+    match start_of_element(alloc, built.facts, &built.tower, y, &gens)? {
         None => unreachable!(),
         Some(found) => {
             let c = target.sub(alloc, &found)?;
@@ -132,6 +132,7 @@ pub fn free_sums<F: Letters, T: Tower<K = F>>(
     alloc: Global,
     built: &Built<'_, T>,
 ) -> Result<Row<Expr>, AllocError>
+    requires stands { StandsOverAll built.now.facts.now (T.reading F.vars F.val built.now.tower) built.now.free_gens built.now.known }
     ensures sums { IfOk result (λ r. AreNewSums built.now.facts.now built.now.free_gens (map tree_of r)) }
 {
     let mut frees = Row::new(alloc);

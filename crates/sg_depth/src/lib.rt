@@ -15,4 +15,4 @@ pub use depth::with_tower;
 pub use fate::Fate;
 pub use jobs::Job;
 pub use levels::{free_sums, plus_constant, start_of_element, start_values};
-pub use towers::{Build, Built};
+pub use towers::Built;

@@ -1,14 +1,14 @@
-ghost use Rattle.std.specs.Prelude.{◌≡◌, ◌<◌, length, get_or, IfOk, IfErr};
+ghost use Rattle.std.specs.Prelude.{◌≡◌, ℕ, suc, length, get_or, IfOk, IfErr};
 ghost use Rattle.sg_num.specs.Stopped.{KeepsWideStep};
 ghost use Rattle.sg_spec.specs.Tree.{here, sum_from};
 ghost use Rattle.sg_expr.specs.Tree.{tree_of};
 ghost use Rattle.sg_depth.specs.Commands.{sums_of};
-ghost use Rattle.sg_depth.specs.Building.{IsPlacedNext};
+ghost use Rattle.sg_depth.specs.Building.{IsBuilt, IsPlacedNext};
 ghost use Rattle.sg_depth.specs.Fates.{IsFate};
 
 use crate::fate::Fate;
 use crate::levels::levelled;
-use crate::towers::Build;
+use crate::towers::Built;
 use sg_build::{Letters, place};
 use sg_expr::Expr;
 use sg_num::Stop;
@@ -20,15 +20,15 @@ use std::alloc::Global;
 /// with the constant that gives it the value of the sum at the start.
 pub fn next_sum<F: Letters, T: Tower<K = F>>(
     alloc: Global,
-    build: &Build<'_, T>,
+    built: &Built<'_, T>,
 ) -> Result<Fate<T::Elem>, Stop>
-    requires next { length build.now.known < length (sums_of build.now.facts.now) }
-    ensures fate { IfOk result (IsFate build.now.facts.now (T.reading F.vars F.val build.now.tower) build.now.free_gens build.now.known) }
+    requires state { (r : ℕ) × IsBuilt built.now.facts.now (suc r) (T.reading F.vars F.val built.now.tower) built.now.free_gens built.now.known }
+    ensures fate { IfOk result (IsFate built.now.facts.now (T.reading F.vars F.val built.now.tower) built.now.free_gens built.now.known) }
     ensures wide { IfErr result KeepsWideStep }
 {
-    let sum = build.facts.sums.get(build.known.len());
+    let sum = built.facts.sums.get(built.known.len());
     match sum {
-        Expr::Sum { from, body } => fate_of(alloc, build, sum, from, body),
+        Expr::Sum { from, body } => fate_of(alloc, built, sum, from, body),
         Expr::Num(_) | Expr::Here | Expr::Param | Expr::Neg(_) | Expr::Pow(_, _) => unreachable!(),
         Expr::Add(_, _) | Expr::Mul(_, _) | Expr::Div(_, _) | Expr::Prod { .. } => unreachable!(),
     }
@@ -37,22 +37,22 @@ pub fn next_sum<F: Letters, T: Tower<K = F>>(
 // What the sum with this body is over those before it.
 fn fate_of<F: Letters, T: Tower<K = F>>(
     alloc: Global,
-    build: &Build<'_, T>,
+    built: &Built<'_, T>,
     sum: &Expr,
     from: &i64,
     body: &Expr,
 ) -> Result<Fate<T::Elem>, Stop>
-    requires inside { length build.now.known < length (sums_of build.now.facts.now) }
-    requires next { get_or (sums_of build.now.facts.now) (length build.now.known) here ≡ sum_from from.now (tree_of body.now) }
+    requires state { (r : ℕ) × IsBuilt built.now.facts.now (suc r) (T.reading F.vars F.val built.now.tower) built.now.free_gens built.now.known }
+    requires next { get_or (sums_of built.now.facts.now) (length built.now.known) here ≡ sum_from from.now (tree_of body.now) }
     requires same { tree_of sum.now ≡ sum_from from.now (tree_of body.now) }
-    ensures fate { IfOk result (IsFate build.now.facts.now (T.reading F.vars F.val build.now.tower) build.now.free_gens build.now.known) }
+    ensures fate { IfOk result (IsFate built.now.facts.now (T.reading F.vars F.val built.now.tower) built.now.free_gens built.now.known) }
     ensures wide { IfErr result KeepsWideStep }
 {
-    let beta = difference(alloc, build, from, body)?;
-    match telescope(alloc, &build.tower, &beta)? {
+    let beta = difference(alloc, built, from, body)?;
+    match telescope(alloc, &built.tower, &beta)? {
         None => Ok(Fate::New(beta)),
         Some(y) => {
-            let h = levelled(alloc, build, sum, y)?;
+            let h = levelled(alloc, built, sum, y)?;
             Ok(Fate::Known(h))
         }
     }
@@ -61,25 +61,25 @@ fn fate_of<F: Letters, T: Tower<K = F>>(
 // The difference of the sum with this lower limit and this body: the body's element, one place further.
 fn difference<F: Letters, T: Tower<K = F>>(
     alloc: Global,
-    build: &Build<'_, T>,
+    built: &Built<'_, T>,
     from: &i64,
     body: &Expr,
 ) -> Result<T::Elem, Stop>
-    requires inside { length build.now.known < length (sums_of build.now.facts.now) }
-    requires next { get_or (sums_of build.now.facts.now) (length build.now.known) here ≡ sum_from from.now (tree_of body.now) }
-    ensures step { IfOk result (IsPlacedNext build.now.facts.now (T.reading F.vars F.val build.now.tower) build.now.free_gens build.now.known (tree_of body.now)) }
+    requires state { (r : ℕ) × IsBuilt built.now.facts.now (suc r) (T.reading F.vars F.val built.now.tower) built.now.free_gens built.now.known }
+    requires next { get_or (sums_of built.now.facts.now) (length built.now.known) here ≡ sum_from from.now (tree_of body.now) }
+    ensures step { IfOk result (IsPlacedNext built.now.facts.now (T.reading F.vars F.val built.now.tower) built.now.free_gens built.now.known (tree_of body.now)) }
     ensures wide { IfErr result KeepsWideStep }
 {
     let _ = from;
-    let (before, _) = build.facts.sums.as_slice().split_at(build.known.len());
+    let (before, _) = built.facts.sums.as_slice().split_at(built.known.len());
     let placed = place(
         alloc,
-        &build.tower,
-        build.facts.prods.as_slice(),
+        &built.tower,
+        built.facts.prods.as_slice(),
         before,
-        build.known.as_slice(),
+        built.known.as_slice(),
         body,
     )?;
-    let beta = build.tower.shift(alloc, &placed)?;
+    let beta = built.tower.shift(alloc, &placed)?;
     Ok(beta)
 }

@@ -1,12 +1,12 @@
-ghost use Rattle.std.specs.Prelude.{◌≡◌, ℕ, suc, ◌+◌, length, IfOk, IfErr};
+ghost use Rattle.std.specs.Prelude.{ℕ, suc, IfOk, IfErr};
 ghost use Rattle.sg_num.specs.Stopped.{KeepsWideStep};
-ghost use Rattle.sg_depth.specs.Commands.{sums_of};
+ghost use Rattle.sg_depth.specs.Building.{IsBuilt};
 
 use crate::fate::Fate;
-use crate::growing::{expressed, finished, grow};
+use crate::growing::{expressed, grow};
 use crate::jobs::Job;
 use crate::next::next_sum;
-use crate::towers::Build;
+use crate::towers::Built;
 use sg_build::Letters;
 use sg_num::Stop;
 use sg_tower::Tower;
@@ -21,12 +21,12 @@ pub trait Rest: Drop {
     fn over<F: Letters, T: Tower<K = F>, J: Job<F>>(
         self,
         alloc: Global,
-        build: Build<'_, T>,
+        built: Built<'_, T>,
         job: J,
     ) -> Result<J::Out, Stop>
-        requires suitable { J.suits job build.facts.now }
-        requires rest { length (sums_of build.facts.now) ≡ length build.known + left }
-        ensures done { IfOk result (J.done job build.entry.facts.now) }
+        requires suitable { J.suits job built.facts.now }
+        requires state { IsBuilt built.facts.now left (T.reading F.vars F.val built.tower) built.free_gens built.known }
+        ensures done { IfOk result (J.done job built.entry.facts.now) }
         ensures wide { IfErr result KeepsWideStep };
 }
 
@@ -40,11 +40,10 @@ impl Rest for Last {
     fn over<F: Letters, T: Tower<K = F>, J: Job<F>>(
         self,
         alloc: Global,
-        build: Build<'_, T>,
+        built: Built<'_, T>,
         job: J,
     ) -> Result<J::Out, Stop> {
         let Last = self;
-        let built = finished(build);
         job.run(alloc, &built)
     }
 }
@@ -59,17 +58,17 @@ impl<R: Rest> Rest for More<R> {
     fn over<F: Letters, T: Tower<K = F>, J: Job<F>>(
         self,
         alloc: Global,
-        build: Build<'_, T>,
+        built: Built<'_, T>,
         job: J,
     ) -> Result<J::Out, Stop> {
         let More(others) = self;
-        match next_sum(alloc, &build)? {
+        match next_sum(alloc, &built)? {
             Fate::Known(element) => {
-                let more = expressed(build, element)?;
+                let more = expressed(built, element)?;
                 others.over(alloc, more, job)
             }
             Fate::New(beta) => {
-                let more = grow(alloc, build, beta)?;
+                let more = grow(alloc, built, beta)?;
                 others.over(alloc, more, job)
             }
         }

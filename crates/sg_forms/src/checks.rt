@@ -1,9 +1,10 @@
 ghost use Rattle.std.specs.Prelude.{◌<◌, length, map, All, IfOk, IfErr};
 ghost use Rattle.std.specs.Bool.{OnTrue, OnFalse};
 ghost use Rattle.sg_num.specs.Stopped.{KeepsWideStep};
+ghost use Rattle.sg_num.specs.Value.{number};
 ghost use Rattle.sg_expr.specs.Tree.{tree_of};
 ghost use Rattle.sg_build.specs.Letters.{letter, HasNoLetter};
-ghost use Rattle.sg_depth.specs.Commands.{AreSound, AreAdmitted, sums_of};
+ghost use Rattle.sg_depth.specs.Commands.{AreSound, AreAdmitted, sums_of, StandsOverAll};
 ghost use Rattle.sg_forms.specs.Commands.{FirstTelescopes, FirstFails};
 ghost use Rattle.sg_forms.specs.Listed.{IsListed, IsCheck};
 
@@ -78,6 +79,7 @@ fn telescopes_in<T: Tower<K = Rat>>(
     f: &Expr,
     g: &Expr,
 ) -> Result<bool, Stop>
+    requires stands { StandsOverAll built.now.facts.now (T.reading 0 number built.now.tower) built.now.free_gens built.now.known }
     requires summand { IsListed built.now.facts.now (tree_of f.now) }
     requires antidifference { IsListed built.now.facts.now (tree_of g.now) }
     ensures check { IfOk result (IsCheck built.now.facts.now (tree_of f.now) (tree_of g.now)) }

@@ -1,8 +1,9 @@
 ghost use Rattle.std.specs.Prelude.{◌≡◌, ◌<◌, suc, length, map, get_or, IfOk, IfErr, IfSome, IfNone};
 ghost use Rattle.sg_algebra.specs.Coefficients.{Each};
 ghost use Rattle.sg_num.specs.Stopped.{KeepsWideStep};
+ghost use Rattle.sg_num.specs.Value.{number};
 ghost use Rattle.sg_expr.specs.Tree.{tree_of};
-ghost use Rattle.sg_depth.specs.Commands.{AreNewSums, sums_of};
+ghost use Rattle.sg_depth.specs.Commands.{AreNewSums, sums_of, StandsOverAll};
 ghost use Rattle.sg_forms.specs.Listed.{AreTelling, IsTelling, IsPrintedMark};
 ghost use Rattle.sg_forms.specs.Marks.{marks_of};
 
@@ -35,6 +36,7 @@ pub fn standings_in<T: Tower<K = Rat>>(
     alloc: Global,
     built: &Built<'_, T>,
 ) -> Result<Row<Standing>, Stop>
+    requires stands { StandsOverAll built.now.facts.now (T.reading 0 number built.now.tower) built.now.free_gens built.now.known }
     ensures told { IfOk result (AreTelling built.now.facts.now built.now.free_gens) }
     ensures printed { IfOk result (λ r. Each (IsPrintedMark built.now.facts.now) (marks_of r)) }
     ensures wide { IfErr result KeepsWideStep }
@@ -59,6 +61,7 @@ fn one_more<T: Tower<K = Rat>>(
     told: Told,
     i: usize,
 ) -> Result<Told, Stop>
+    requires stands { StandsOverAll built.now.facts.now (T.reading 0 number built.now.tower) built.now.free_gens built.now.known }
     requires frees { AreNewSums built.now.facts.now built.now.free_gens (map tree_of frees.now) }
     requires inside { i < length (sums_of built.now.facts.now) }
     requires so_far { IsTelling built.now.facts.now built.now.free_gens i told.next told.standings }

@@ -2,7 +2,7 @@ ghost use Rattle.std.specs.Prelude.{map, IfOk, IfErr};
 ghost use Rattle.sg_num.specs.Stopped.{KeepsWideStep};
 ghost use Rattle.sg_num.specs.Value.{number};
 ghost use Rattle.sg_expr.specs.Tree.{tree_of};
-ghost use Rattle.sg_depth.specs.Commands.{AreNewSums};
+ghost use Rattle.sg_depth.specs.Commands.{AreNewSums, StandsOverAll};
 ghost use Rattle.sg_forms.specs.Listed.{IsListed, IsItem, IsSaid};
 
 use sg_build::{express, place};
@@ -18,6 +18,7 @@ pub fn placed<T: Tower<K = Rat>>(
     built: &Built<'_, T>,
     f: &Expr,
 ) -> Result<T::Elem, Stop>
+    requires stands { StandsOverAll built.now.facts.now (T.reading 0 number built.now.tower) built.now.free_gens built.now.known }
     requires listed { IsListed built.now.facts.now (tree_of f.now) }
     ensures value { IfOk result (IsItem built.now.facts.now (T.reading 0 number built.now.tower) built.now.known (tree_of f.now)) }
     ensures wide { IfErr result KeepsWideStep }
@@ -40,6 +41,7 @@ pub fn expression_over<T: Tower<K = Rat>>(
     frees: &Row<Expr>,
     x: &T::Elem,
 ) -> Result<Expr, Stop>
+    requires stands { StandsOverAll built.now.facts.now (T.reading 0 number built.now.tower) built.now.free_gens built.now.known }
     requires frees { AreNewSums built.now.facts.now built.now.free_gens (map tree_of frees.now) }
     ensures said { IfOk result (λ h. IsSaid built.now.facts.now (T.reading 0 number built.now.tower) built.now.free_gens x.now (tree_of h)) }
     ensures wide { IfErr result KeepsWideStep }

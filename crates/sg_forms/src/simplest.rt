@@ -1,9 +1,10 @@
 ghost use Rattle.std.specs.Prelude.{◌<◌, false, length, map, All, IfOk, IfErr};
 ghost use Rattle.sg_num.specs.Stopped.{KeepsWideStep};
+ghost use Rattle.sg_num.specs.Value.{number};
 ghost use Rattle.sg_expr.specs.Tree.{tree_of};
 ghost use Rattle.sg_spec.specs.Printing.{InForm};
 ghost use Rattle.sg_build.specs.Letters.{letter, HasNoLetter};
-ghost use Rattle.sg_depth.specs.Commands.{AreSound, AreAdmitted, sums_of};
+ghost use Rattle.sg_depth.specs.Commands.{AreSound, AreAdmitted, sums_of, StandsOverAll};
 ghost use Rattle.sg_forms.specs.Commands.{IsFirstSimplified, HasOneForm};
 ghost use Rattle.sg_forms.specs.Listed.{IsListed, IsSimplestOf, IsPrintedForm};
 
@@ -75,6 +76,7 @@ fn simplest_in<T: Tower<K = Rat>>(
     built: &Built<'_, T>,
     f: &Expr,
 ) -> Result<Expr, Stop>
+    requires stands { StandsOverAll built.now.facts.now (T.reading 0 number built.now.tower) built.now.free_gens built.now.known }
     requires listed { IsListed built.now.facts.now (tree_of f.now) }
     ensures simplest { IfOk result (λ h. IsSimplestOf built.now.facts.now (tree_of f.now) (tree_of h)) }
     ensures printed { IfOk result (λ h. IsPrintedForm built.now.facts.now (tree_of h)) }

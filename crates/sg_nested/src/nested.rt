@@ -1,9 +1,10 @@
 ghost use Rattle.std.specs.Prelude.{◌<◌, length, map, false, All, IfOk, IfErr, IfSome, IfNone};
 ghost use Rattle.sg_num.specs.Stopped.{KeepsWideStep};
+ghost use Rattle.sg_num.specs.Value.{number};
 ghost use Rattle.sg_expr.specs.Tree.{tree_of};
 ghost use Rattle.sg_spec.specs.Printing.{InForm};
 ghost use Rattle.sg_build.specs.Letters.{letter, HasNoLetter};
-ghost use Rattle.sg_depth.specs.Commands.{AreSound, AreAdmitted, sums_of};
+ghost use Rattle.sg_depth.specs.Commands.{AreSound, AreAdmitted, sums_of, StandsOverAll};
 ghost use Rattle.sg_nested.specs.Commands.{IsFirstClosed, IsFirstCanonical, HasNoFirst};
 ghost use Rattle.sg_nested.specs.Summands.{IsSummand, IsAnswer};
 
@@ -85,6 +86,7 @@ fn closed_in<T: Tower<K = Rat>>(
     f: &Expr,
     lower: i64,
 ) -> Result<Option<Expr>, Stop>
+    requires stands { StandsOverAll built.now.facts.now (T.reading 0 number built.now.tower) built.now.free_gens built.now.known }
     requires summand { IsSummand built.now.facts.now (tree_of f.now) lower }
     ensures answer { IfOk result (IsAnswer built.now.facts.now (tree_of f.now) lower) }
     ensures wide { IfErr result KeepsWideStep }

@@ -4,7 +4,7 @@ ghost use Rattle.sg_num.specs.Value.{number};
 ghost use Rattle.sg_spec.specs.Tree.{sum_from};
 ghost use Rattle.sg_expr.specs.Tree.{tree_of};
 ghost use Rattle.sg_build.specs.Letters.{letter};
-ghost use Rattle.sg_depth.specs.Commands.{AreSound};
+ghost use Rattle.sg_depth.specs.Commands.{AreSound, StandsOverAll};
 ghost use Rattle.sg_nested.specs.Summands.{IsSummand, HasStart, IsStartValue, IsSumBefore, IsTotal};
 
 use sg_build::value_in;
@@ -23,6 +23,7 @@ pub fn total<T: Tower<K = Rat>>(
     lower: i64,
     g: &T::Elem,
 ) -> Result<T::Elem, Stop>
+    requires stands { StandsOverAll built.now.facts.now (T.reading 0 number built.now.tower) built.now.free_gens built.now.known }
     requires summand { IsSummand built.now.facts.now (tree_of f.now) lower }
     requires regular { HasStart built.now.facts.now (T.reading 0 number built.now.tower) built.now.free_gens g.now }
     ensures total { IfOk result (IsTotal built.now.facts.now (T.reading 0 number built.now.tower) built.now.free_gens (tree_of f.now) lower g.now) }
@@ -64,6 +65,7 @@ fn value_at_start<T: Tower<K = Rat>>(
     built: &Built<'_, T>,
     g: &T::Elem,
 ) -> Result<Rat, Stop>
+    requires stands { StandsOverAll built.now.facts.now (T.reading 0 number built.now.tower) built.now.free_gens built.now.known }
     requires regular { HasStart built.now.facts.now (T.reading 0 number built.now.tower) built.now.free_gens g.now }
     ensures value { IfOk result (λ x. IsStartValue built.now.facts.now (T.reading 0 number built.now.tower) built.now.free_gens g.now (number x)) }
     ensures wide { IfErr result KeepsWideStep }

@@ -11,5 +11,5 @@ returns-clause-told g c =
     let past = c.loop-i-test.false in
     let len = c.len-i-end.ensures in
     let mapped = length-map c.args.built.now.facts.now.sums tree_of in
-    told-all c.args.built.now.facts.now (g.T.Tower.reading 0 number c.args.built.now.tower) c.args.built.now.free_gens c.args.built.now.known c.args.built.now.sound c.args.built.now.stands c.loop-i.i c.loop-i.told.next c.loop-i.told.standings
+    told-all c.args.built.now.facts.now (g.T.Tower.reading 0 number c.args.built.now.tower) c.args.built.now.free_gens c.args.built.now.known c.requires.stands.sound c.requires.stands.stands c.loop-i.i c.loop-i.told.next c.loop-i.told.standings
     (omega (arith, end, past, len, mapped)) c.loop-i.invariant.telling

@@ -6,17 +6,17 @@ use Rattle.sg_nested.proofs.Closings.{somewhere-is, none-is, regular-is, closed-
 use Rattle.sg_nested.proofs.nested.closed_in.Goals as goal
 
 pub place-requires-clause-somewhere : goal.place-requires-clause-somewhere
-place-requires-clause-somewhere g c = rw (c.as_slice.ensures, c.as_slice-2.ensures, c.as_slice-3.ensures) (somewhere-is c.args.built.now.facts.now (g.T.Tower.reading 0 number c.args.built.now.tower) c.args.built.now.free_gens c.args.built.now.known c.args.built.now.sound c.args.built.now.stands (tree_of c.args.f.now) c.args.lower c.requires.summand)
+place-requires-clause-somewhere g c = rw (c.as_slice.ensures, c.as_slice-2.ensures, c.as_slice-3.ensures) (somewhere-is c.args.built.now.facts.now (g.T.Tower.reading 0 number c.args.built.now.tower) c.args.built.now.free_gens c.args.built.now.known c.requires.stands.sound c.requires.stands.stands (tree_of c.args.f.now) c.args.lower c.requires.summand)
 
 pub returns-in-None-clause-answer : goal.returns-in-None-clause-answer
 returns-in-None-clause-answer g c =
     let placed = rw (c.as_slice.ensures, c.as_slice-2.ensures, c.as_slice-3.ensures) at c.in_ok-x.ensures.value in
-    none-is c.args.built.now.facts.now (g.T.Tower.reading 0 number c.args.built.now.tower) c.args.built.now.free_gens c.args.built.now.known c.args.built.now.sound c.args.built.now.stands (tree_of c.args.f.now) c.args.lower c.requires.summand c.in_ok-x.x placed (g.met.T.Tower.independent c.args.built.now.tower) (rw c.in-None.is at c.in_ok-telescope.ensures.none)
+    none-is c.args.built.now.facts.now (g.T.Tower.reading 0 number c.args.built.now.tower) c.args.built.now.free_gens c.args.built.now.known c.requires.stands.sound c.requires.stands.stands (tree_of c.args.f.now) c.args.lower c.requires.summand c.in_ok-x.x placed (g.met.T.Tower.independent c.args.built.now.tower) (rw c.in-None.is at c.in_ok-telescope.ensures.none)
 
 pub total-requires-clause-regular : goal.total-requires-clause-regular
 total-requires-clause-regular g c =
     let placed = rw (c.as_slice.ensures, c.as_slice-2.ensures, c.as_slice-3.ensures) at c.in_ok-x.ensures.value in
-    regular-is c.args.built.now.facts.now (g.T.Tower.reading 0 number c.args.built.now.tower) c.args.built.now.free_gens c.args.built.now.known c.args.built.now.sound c.args.built.now.stands (tree_of c.args.f.now) c.args.lower c.requires.summand c.in_ok-x.x placed c.in-Some.g (rw c.in-Some.is at c.in_ok-telescope.ensures.some)
+    regular-is c.args.built.now.facts.now (g.T.Tower.reading 0 number c.args.built.now.tower) c.args.built.now.free_gens c.args.built.now.known c.requires.stands.sound c.requires.stands.stands (tree_of c.args.f.now) c.args.lower c.requires.summand c.in_ok-x.x placed c.in-Some.g (rw c.in-Some.is at c.in_ok-telescope.ensures.some)
 
 pub returns-clause-answer : goal.returns-clause-answer
 returns-clause-answer g c =
@@ -28,7 +28,7 @@ returns-clause-answer g c =
     let over = rw (c.as_slice-in-Some.ensures, c.new-none.ensures, c.as_slice-in-Some-2.ensures) at c.in_ok-h-in-Some.ensures.over in
     let canonical = rw (c.as_slice-in-Some.ensures, c.new-none.ensures, c.as_slice-in-Some-2.ensures) at c.in_ok-h-in-Some.ensures.canonical in
     let form = rw (c.as_slice-in-Some.ensures, c.new-none.ensures, c.as_slice-in-Some-2.ensures) at c.in_ok-h-in-Some.ensures.form in (
-      closed-is c.args.built.now.facts.now (g.T.Tower.reading 0 number c.args.built.now.tower) c.args.built.now.free_gens c.args.built.now.known c.args.built.now.sound c.args.built.now.stands (tree_of c.args.f.now) c.args.lower c.requires.summand c.in_ok-x.x placed c.in-Some.g telescopes c.in_ok-y-in-Some.y total (map tree_of c.in_ok-frees-in-Some.frees) (tree_of c.in_ok-h-in-Some.h) c.in_ok-frees-in-Some.ensures value over,
-      canonical-is c.args.built.now.facts.now (g.T.Tower.reading 0 number c.args.built.now.tower) c.args.built.now.free_gens c.args.built.now.known c.args.built.now.sound c.args.built.now.stands (g.met.T.Tower.independent c.args.built.now.tower) (map tree_of c.in_ok-frees-in-Some.frees) (tree_of c.in_ok-h-in-Some.h) c.in_ok-frees-in-Some.ensures canonical,
-      form-is c.args.built.now.facts.now (g.T.Tower.reading 0 number c.args.built.now.tower) c.args.built.now.free_gens c.args.built.now.known c.args.built.now.sound c.args.built.now.stands (map tree_of c.in_ok-frees-in-Some.frees) (tree_of c.in_ok-h-in-Some.h) c.in_ok-frees-in-Some.ensures form,
+      closed-is c.args.built.now.facts.now (g.T.Tower.reading 0 number c.args.built.now.tower) c.args.built.now.free_gens c.args.built.now.known c.requires.stands.sound c.requires.stands.stands (tree_of c.args.f.now) c.args.lower c.requires.summand c.in_ok-x.x placed c.in-Some.g telescopes c.in_ok-y-in-Some.y total (map tree_of c.in_ok-frees-in-Some.frees) (tree_of c.in_ok-h-in-Some.h) c.in_ok-frees-in-Some.ensures value over,
+      canonical-is c.args.built.now.facts.now (g.T.Tower.reading 0 number c.args.built.now.tower) c.args.built.now.free_gens c.args.built.now.known c.requires.stands.sound c.requires.stands.stands (g.met.T.Tower.independent c.args.built.now.tower) (map tree_of c.in_ok-frees-in-Some.frees) (tree_of c.in_ok-h-in-Some.h) c.in_ok-frees-in-Some.ensures canonical,
+      form-is c.args.built.now.facts.now (g.T.Tower.reading 0 number c.args.built.now.tower) c.args.built.now.free_gens c.args.built.now.known c.requires.stands.sound c.requires.stands.stands (map tree_of c.in_ok-frees-in-Some.frees) (tree_of c.in_ok-h-in-Some.h) c.in_ok-frees-in-Some.ensures form,
     )

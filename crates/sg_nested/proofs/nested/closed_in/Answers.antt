@@ -28,7 +28,7 @@ returns-clause-answer g c =
     let over = rw (c.as_slice-in-Some.ensures, c.new-none.ensures, c.as_slice-in-Some-2.ensures) at c.in_ok-h-in-Some.ensures.over in
     let canonical = rw (c.as_slice-in-Some.ensures, c.new-none.ensures, c.as_slice-in-Some-2.ensures) at c.in_ok-h-in-Some.ensures.canonical in
     let form = rw (c.as_slice-in-Some.ensures, c.new-none.ensures, c.as_slice-in-Some-2.ensures) at c.in_ok-h-in-Some.ensures.form in (
-      closed-is c.args.built.now.facts.now (g.T.Tower.reading 0 number c.args.built.now.tower) c.args.built.now.free_gens c.args.built.now.known c.requires.stands.sound c.requires.stands.stands (tree_of c.args.f.now) c.args.lower c.requires.summand c.in_ok-x.x placed c.in-Some.g telescopes c.in_ok-y-in-Some.y total (map tree_of c.in_ok-frees-in-Some.frees) (tree_of c.in_ok-h-in-Some.h) c.in_ok-frees-in-Some.ensures value over,
-      canonical-is c.args.built.now.facts.now (g.T.Tower.reading 0 number c.args.built.now.tower) c.args.built.now.free_gens c.args.built.now.known c.requires.stands.sound c.requires.stands.stands (g.met.T.Tower.independent c.args.built.now.tower) (map tree_of c.in_ok-frees-in-Some.frees) (tree_of c.in_ok-h-in-Some.h) c.in_ok-frees-in-Some.ensures canonical,
-      form-is c.args.built.now.facts.now (g.T.Tower.reading 0 number c.args.built.now.tower) c.args.built.now.free_gens c.args.built.now.known c.requires.stands.sound c.requires.stands.stands (map tree_of c.in_ok-frees-in-Some.frees) (tree_of c.in_ok-h-in-Some.h) c.in_ok-frees-in-Some.ensures form,
+      closed-is c.args.built.now.facts.now (g.T.Tower.reading 0 number c.args.built.now.tower) c.args.built.now.free_gens c.args.built.now.known c.requires.stands.sound c.requires.stands.stands (tree_of c.args.f.now) c.args.lower c.requires.summand c.in_ok-x.x placed c.in-Some.g telescopes c.in_ok-y-in-Some.y total (map tree_of c.in_ok-frees-in-Some.frees) (tree_of c.in_ok-h-in-Some.h) c.in_ok-frees-in-Some.ensures.sums value over,
+      canonical-is c.args.built.now.facts.now (g.T.Tower.reading 0 number c.args.built.now.tower) c.args.built.now.free_gens c.args.built.now.known c.requires.stands.sound c.requires.stands.stands (g.met.T.Tower.independent c.args.built.now.tower) (map tree_of c.in_ok-frees-in-Some.frees) (tree_of c.in_ok-h-in-Some.h) c.in_ok-frees-in-Some.ensures.sums canonical,
+      form-is c.args.built.now.facts.now (g.T.Tower.reading 0 number c.args.built.now.tower) c.args.built.now.free_gens c.args.built.now.known c.requires.stands.sound c.requires.stands.stands (map tree_of c.in_ok-frees-in-Some.frees) (tree_of c.in_ok-h-in-Some.h) c.in_ok-frees-in-Some.ensures.sums form,
     )

@@ -21,4 +21,5 @@ returns-in_ok-reply-in-Err c =
 
 pub simplified-requires-clause-admitted : goal.simplified-requires-clause-admitted
 simplified-requires-clause-admitted c =
-    admitted c.args.a c.args.facts.now (map tree_of c.args.items.now) c.requires.form c.requires.kept (lower c.args.a c.requires.low) c.requires.high c.requires.tested
+    let fits : FitsSigned w64 c.args.a = c.ranges.a in
+    simp to_z-of_z (admitted c.args.a c.args.facts.now (map tree_of c.args.items.now) c.requires.form c.requires.kept (lower c.args.a c.requires.low) c.requires.high c.requires.tested)

@@ -13,8 +13,3 @@ returns-in-Some c =
     let fits : FitsSigned w64 c.args.a = c.ranges.a in
     let reply = rw c.in-Some.is at c.in_ok-plain.ensures in
     simp to_z-of_z at reply
-
-pub returns-in_ok-reply : goal.returns-in_ok-reply
-returns-in_ok-reply c =
-    let fits : FitsSigned w64 c.args.a = c.ranges.a in
-    simp to_z-of_z at c.in_ok-reply.ensures

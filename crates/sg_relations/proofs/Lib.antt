@@ -1,0 +1,12 @@
+pub mod Loops
+pub mod Steps
+pub mod RowLaw
+pub mod Starts
+pub mod Signs
+pub mod Shortest
+pub mod Splitting
+pub mod FactorSteps
+pub mod Grown
+pub mod FactorRows
+pub mod Leads
+pub mod Meetings

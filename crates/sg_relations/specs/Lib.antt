@@ -1,0 +1,5 @@
+pub mod Columns
+pub mod Signs
+pub mod Shortest
+pub mod Factors
+pub mod Parts

@@ -154,7 +154,7 @@ module _ {K : Type 0} (cs : List (Factor K)) where
       go (c ∷ cs) = ap suc (go cs)
 
   -- the rows of the factors alone, for as many elements as there are rows
-  abbrev own_from : ℕ → List (List ℤ) → List (List ℤ)
+  abbrev pub own_from : ℕ → List (List ℤ) → List (List ℤ)
   own_from k [] = []
   own_from k (r ∷ rs) = row_at cs k ∷ own_from (suc k) rs
 
@@ -255,7 +255,7 @@ module _ {K : Type 0} {d : ℕ} (v : K → Value d) where
   powers-row (c ∷ cs) i = ap (λ (y : Value (suc d)). factor_at v c i *ᵛ y) (powers-row cs i)
 
   -- the polynomials in the field, with the map
-  abbrev in_field : (s : Shifts) → Inside (PolynomialD d) (ValueF (suc d))
+  abbrev pub in_field : (s : Shifts) → Inside (PolynomialD d) (ValueF (suc d))
   in_field s = record {
     ι = whole;
     ι_cong = (value_fractions d).ι_cong;
@@ -266,27 +266,27 @@ module _ {K : Type 0} {d : ℕ} (v : K → Value d) where
     τ = field_map s d;
   }
 
-  abbrev values : List (List K × List K) → List (Value (suc d))
+  abbrev pub values : List (List K × List K) → List (Value (suc d))
   values rs = map (ratio v) rs
 
-  abbrev leads : List K → List (Value d)
+  abbrev pub leads : List K → List (Value d)
   leads ls = map v ls
 
-  unit_of : (s : Shifts) (c : Value d) → ¬ (c ≡ zero_value) → UnitValue (PolynomialD d) (polynomial_map s d) (ValueF (suc d)) (in_field s) (constant_value d c)
+  pub unit_of : (s : Shifts) (c : Value d) → ¬ (c ≡ zero_value) → UnitValue (PolynomialD d) (polynomial_map s d) (ValueF (suc d)) (in_field s) (constant_value d c)
   unit_of s c h = record { u = constant c; unit = constant_unit c h; is = sym (whole-constant c) }
 
   constant_some : (c : Value d) → ¬ (c ≡ zero_value) → Some (ValueF (suc d)) (constant_value d c)
   constant_some c h z = h (constant_value_zero d c z)
 
-  length-values : (rs : List (List K × List K)) → length (values rs) ≡ length rs
+  pub length-values : (rs : List (List K × List K)) → length (values rs) ≡ length rs
   length-values [] = refl
   length-values (r ∷ rs) = ap suc (length-values rs)
 
-  length-leads : (ls : List K) → length (leads ls) ≡ length ls
+  pub length-leads : (ls : List K) → length (leads ls) ≡ length ls
   length-leads [] = refl
   length-leads (l ∷ ls) = ap suc (length-leads ls)
 
-  leads_some : (rs : List (List K × List K)) (ls : List K) (cs : List (Factor K)) (k : ℕ) → PartsFrom v rs ls cs k → length ls ≡ length rs → Each (Some (ValueF d)) (leads ls)
+  pub leads_some : (rs : List (List K × List K)) (ls : List K) (cs : List (Factor K)) (k : ℕ) → PartsFrom v rs ls cs k → length ls ≡ length rs → Each (Some (ValueF d)) (leads ls)
   leads_some rs [] cs k p l = tt
   leads_some [] (x ∷ ls) cs k p l = absurd (omega arith)
   leads_some (r ∷ rs) (x ∷ ls) cs k p l = (p.0.0, leads_some rs ls cs (suc k) p.1 (omega arith))
@@ -296,7 +296,7 @@ module _ {K : Type 0} {d : ℕ} (v : K → Value d) where
     abbrev gens : AreGenerators (PolynomialD d) (polynomial_map s d) (bases basis)
     gens = generators s basis proper pairwise
 
-    written : (rs : List (List K × List K)) (ls : List K) (rows : List (List ℤ)) (k : ℕ) → PartsFrom v rs ls start k → length ls ≡ length rs → length rows ≡ length ls
+    pub written : (rs : List (List K × List K)) (ls : List K) (rows : List (List ℤ)) (k : ℕ) → PartsFrom v rs ls start k → length ls ≡ length rs → length rows ≡ length ls
         → AllWritten (PolynomialD d) (polynomial_map s d) (ValueF (suc d)) (in_field s) (bases basis) gens (values rs) (map (constant_value d) (leads ls)) (own_from basis k rows)
     written [] [] [] k p e q = tt
     written [] [] (row ∷ rows) k p e q = absurd (omega arith)
@@ -313,7 +313,7 @@ module _ {K : Type 0} {d : ℕ} (v : K → Value d) where
     )
 
     -- the rows of the factors send exponents to 0, and so do the others: both, joined
-    both : (es : List ℤ) (rows : List (List ℤ)) → (Zeros (bases basis) (total es (own_from basis 0 rows)) × AllZero (total es rows)) ↔ AllZero (total es (joined_from basis 0 rows))
+    pub both : (es : List ℤ) (rows : List (List ℤ)) → (Zeros (bases basis) (total es (own_from basis 0 rows)) × AllZero (total es rows)) ↔ AllZero (total es (joined_from basis 0 rows))
     both es rows = (
       (λ h. subst AllZero (sym (total-joined basis es 0 rows)) ((all_join (total es (own_from basis 0 rows)) (total es rows)).1
           (zeros_all (bases basis) (total es (own_from basis 0 rows)) (subst (λ (n : ℕ). length (total es (own_from basis 0 rows)) ≤ n) (sym (length-bases basis)) (own_short basis es 0 rows)) h.0, h.1))),

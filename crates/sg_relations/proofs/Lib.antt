@@ -10,3 +10,9 @@ pub mod Grown
 pub mod FactorRows
 pub mod Leads
 pub mod Meetings
+pub mod LeadRows
+pub mod Relating
+pub mod Columns
+pub mod Combined
+pub mod Solved
+pub mod Found

@@ -4,7 +4,7 @@
 --   unmet_item        what holds of each item holds of the one at a place
 --   first_shift       the first of some shifts is one
 --   no_shifts         there is none in an empty list
-use Rattle.std.proofs.Common.{◌≡◌, ℕ, zero, suc, ◌+◌, ◌<◌, refl, sym, subst, List, [], ◌∷◌, map, length, take, get_or, All, ℤ, ◌==◌, true, false, arith}
+use Rattle.std.proofs.Common.{◌∙◌, ◌≡◌, ℕ, zero, suc, ◌+◌, ◌<◌, refl, sym, subst, List, [], ◌∷◌, map, length, take, get_or, All, ℤ, ◌==◌, true, false, arith}
 use Rattle.std.specs.List.{Contains}
 use Rattle.sg_algebra.proofs.Value.{Value}
 use Rattle.sg_spread.specs.Shifts.{Meets}
@@ -42,3 +42,10 @@ no_item [] x e h = below h.0 h.1
     below : (k : ℕ) → k < 0 → ⊥
     below k l = omega arith
 no_item (y ∷ xs) x e h = absurd (grind arith)
+
+pub no_items : {X : Type 0} (xs : List X) → true ≡ (length xs == 0) → xs ≡ []
+no_items [] e = refl
+no_items (x ∷ xs) e = absurd (grind arith)
+
+pub first_item : {X : Type 0} (xs : List X) (x y : X) → 0 < length xs → x ≡ get_or xs 0 x → x ≡ get_or xs 0 y
+first_item xs x y l e = e ∙ default xs 0 x y l

@@ -3,6 +3,7 @@
 --   shortest_is                   the vector is the shortest
 use Rattle.std.proofs.Common.{◌≡◌, ℕ, zero, suc, ◌<◌, refl, sym, ap, ◌∙◌, List, [], ◌∷◌, map, length, All, ℤ, pos, negsuc, ◌*ℤ◌, ◌<ℤ◌, neg_ℤ, unsigned_abs, arith}
 use Rattle.std.proofs.lemmas.Int.{ints}
+use Rattle.sg_algebra.proofs.Lists.{length_map}
 use Rattle.sg_algebra.proofs.Solver.{by, ring, reads}
 use Rattle.sg_algebra.proofs.Whole.{ℤR, readsℤ}
 use Rattle.sg_algebra.proofs.Divides.{Divides}
@@ -54,6 +55,7 @@ multiples (r ∷ b) m h (suc k) d l = multiples b m (λ i q. h (suc i) (omega ar
 pub shortest_is : (b : List Rat) (e : List ℤ) (l n : ℤ) → ¬ (l ≡ pos 0) → n ≡ pos (unsigned_abs l) → map (whole_value 0) e ≡ map (λ r. whole_value 0 n *ᵛ number r) b
     → ((m : ℤ) → All (λ r. IsMultiple m (fraction r).den) b → (k : ℤ) × (m ≡ k *ℤ l)) → IsShortest b e
 shortest_is b e l n some is q least = record {
+  sized = sym (length_map (whole_value 0) e) ∙ ap length q ∙ length_map (λ r. whole_value 0 n *ᵛ number r) b;
   multiple = pos (unsigned_abs l);
   positive = size_positive l some;
   is = at (pos (unsigned_abs l)) b e (q ∙ ap (λ (n : ℤ). map (λ r. whole_value 0 n *ᵛ number r) b) is);

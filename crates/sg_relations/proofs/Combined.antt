@@ -5,7 +5,7 @@
 --   up_some               the products of the powers aren't 0
 --   up_down               the factors to their exponents, times those with negative exponents, are those with positive ones
 --   inverse_is            so a quotient of these products is one over the product of powers
-use Rattle.std.proofs.Common.{◌≡◌, ℕ, zero, suc, ◌+◌, ◌-◌, ◌<◌, ◌≤◌, refl, sym, subst, ap, ap₂, ◌∙◌, List, [], ◌∷◌, ◌++◌, map, length, take, get_or, All, ◌⊎◌, inl, inr, ℤ, pos, negsuc, ◌+ℤ◌, ◌*ℤ◌, ◌≤ℤ◌, ◌<ℤ◌, arith}
+use Rattle.std.proofs.Common.{◌≡◌, ℕ, zero, suc, ◌+◌, ◌-◌, ◌<◌, refl, sym, subst, ap, ap₂, ◌∙◌, List, [], ◌∷◌, ◌++◌, map, length, take, get_or, All, ℤ, pos, negsuc, ◌+ℤ◌, ◌*ℤ◌, ◌≤ℤ◌, arith}
 use Rattle.std.proofs.lemmas.Int.{ints}
 use Rattle.std.proofs.lemmas.List.Elements.{All-push}
 use Rattle.sg_algebra.specs.Coefficients.{Each}
@@ -13,8 +13,8 @@ use Rattle.sg_algebra.proofs.Ring.{pow}
 use Rattle.sg_algebra.proofs.Solver.{by, ring, scale, reads}
 use Rattle.sg_algebra.proofs.Divides.{identity}
 use Rattle.sg_algebra.proofs.Whole.{ℤR, readsℤ}
-use Rattle.sg_algebra.proofs.Value.{Value, ◌*ᵛ◌, inv_value, zero_value, one_value, over_value}
-use Rattle.sg_algebra.proofs.ValueField.{ValueR, ValueF, value_mul-inv, value_one_ne}
+use Rattle.sg_algebra.proofs.Value.{Value, ◌*ᵛ◌, inv_value, zero_value, one_value}
+use Rattle.sg_algebra.proofs.ValueField.{ValueR, ValueF, value_mul-inv}
 use Rattle.sg_algebra.proofs.Embedding.{constant_value, constant_valueH, over_value-quotient}
 use Rattle.sg_algebra.proofs.Polynomial.{Polynomial, PolynomialR, poly, poly_cong, polynomial_factor, polynomial_one_ne, zero_polynomial, one_polynomial, ◌*ᵖ◌}
 use Rattle.sg_poly.proofs.Dividers.{monic_some}

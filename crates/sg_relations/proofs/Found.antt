@@ -4,7 +4,7 @@
 --   sign_found           the product of the powers of the leading coefficients by the shortest vector is 1 or -1
 --   one_found, holds_found      by the vector, or twice it, it is 1, and the product of powers is r(k + 1)/r(k)
 --   answer_found         the answer
-use Rattle.std.proofs.Common.{◌≡◌, ℕ, zero, suc, ◌-◌, ◌<◌, ◌≤◌, refl, sym, subst, ap, ap₂, ◌∙◌, List, [], ◌∷◌, ◌++◌, map, length, take, get_or, All, ◌⊎◌, inl, inr, ◌↔◌, ℤ, pos, negsuc, ◌*ℤ◌, ◌<ℤ◌, arith}
+use Rattle.std.proofs.Common.{◌≡◌, ℕ, zero, suc, ◌-◌, ◌<◌, ◌≤◌, refl, sym, subst, ap, ◌∙◌, List, [], ◌∷◌, ◌++◌, map, length, take, get_or, All, inl, inr, ◌↔◌, ℤ, pos, negsuc, ◌*ℤ◌, ◌<ℤ◌, arith}
 use Rattle.std.proofs.lemmas.Int.{ints}
 use Rattle.sg_algebra.specs.Coefficients.{Each}
 use Rattle.sg_algebra.proofs.Solver.{by, ring, reads}

@@ -1,21 +1,17 @@
 -- The rows of refined factors over all shifts, joined with those of the leading coefficients.
 --   lead_rows       they decide which products of powers are r(k + 1)/r(k) up to their sign, and the sign is that of the leading coefficients
-use Rattle.std.proofs.Common.{◌≡◌, ℕ, suc, ◌+◌, refl, sym, subst, ap, ◌∙◌, List, map, length, All, inl, inr, ◌↔◌, ℤ, ◌⊎◌}
+use Rattle.std.proofs.Common.{◌≡◌, ℕ, suc, ◌+◌, sym, ◌∙◌, List, map, length, All, ℤ}
 use Rattle.sg_algebra.specs.Coefficients.{Each}
-use Rattle.sg_algebra.proofs.Value.{Value, zero_value, one_value, neg_value}
-use Rattle.sg_algebra.proofs.ValueField.{ValueR, ValueF}
+use Rattle.sg_algebra.proofs.Value.{Value}
+use Rattle.sg_algebra.proofs.ValueField.{ValueF}
 use Rattle.sg_algebra.proofs.Polynomial.{PolynomialD}
 use Rattle.sg_algebra.proofs.Embedding.{constant_value, constant_valueH}
-use Rattle.sg_algebra.proofs.ShiftValue.{shift_valueH}
 use Rattle.sg_first_order_theory.proofs.Next.{nextH}
-use Rattle.sg_ratfun.specs.Fractions.{ratio}
 use Rattle.sg_tower_theory.specs.Powers.{powers}
-use Rattle.sg_relations_theory.specs.Rows.{total}
-use Rattle.sg_relations_theory.specs.Relations.{IsSign, AllZero, AreExponents}
+use Rattle.sg_relations_theory.specs.Relations.{AreExponents}
 use Rattle.sg_relations_theory.proofs.PowerLaws.{Some, powers_ne}
-use Rattle.sg_relations_theory.proofs.Similar.{Similar}
 use Rattle.sg_relations_theory.proofs.AtValues.{rel_values}
-use Rattle.sg_relations_theory.proofs.SignLaw.{SignRatio, sign_law}
+use Rattle.sg_relations_theory.proofs.SignLaw.{sign_law}
 use Rattle.sg_relations_theory.proofs.WrittenRows.{AllWritten, row_law_from}
 use Rattle.sg_relations_theory.proofs.ConstantsAbove.{powers-on, constants-sign}
 use Rattle.sg_relations.specs.declared.factors.Factor.{Factor}

@@ -10,7 +10,6 @@ use Rattle.std.proofs.lemmas.Int.{ints}
 use Rattle.sg_algebra.specs.Coefficients.{Each}
 use Rattle.sg_algebra.specs.Divisor.{gcd}
 use Rattle.sg_algebra.proofs.Divisor.{coprime_whole, gcd_one_right}
-use Rattle.sg_algebra.proofs.Divides.{Divides}
 use Rattle.sg_algebra.proofs.Coprime.{Coprime}
 use Rattle.sg_algebra.proofs.Solver.{by, ring, reads}
 use Rattle.sg_algebra.proofs.Value.{Value, ◌*ᵛ◌, zero_value, one_value, fraction_value}

@@ -5,19 +5,19 @@
 --   over_value_is, over_monic      a rational function over its leading coefficient
 --   over_ratio            it is a ratio too
 use Rattle.std.proofs.Common.{◌≡◌, ℕ, zero, suc, ◌-◌, ◌<◌, refl, sym, subst, ap, ap₂, ◌∙◌, List, [], ◌∷◌, map, length, get_or, arith}
-use Rattle.sg_algebra.specs.Coefficients.{Each, poly_mul}
+use Rattle.sg_algebra.specs.Coefficients.{poly_mul}
 use Rattle.sg_algebra.proofs.Solver.{by, ring, scale, reads}
 use Rattle.sg_algebra.proofs.Divides.{on-O}
-use Rattle.sg_algebra.proofs.Value.{Value, ◌+ᵛ◌, ◌-ᵛ◌, ◌*ᵛ◌, inv_value, zero_value, one_value, over_value}
-use Rattle.sg_algebra.proofs.ValueField.{ValueR, ValueF, value_mul-inv, value_one_ne}
+use Rattle.sg_algebra.proofs.Value.{Value, ◌+ᵛ◌, ◌-ᵛ◌, ◌*ᵛ◌, inv_value, zero_value, one_value}
+use Rattle.sg_algebra.proofs.ValueField.{ValueR, value_mul-inv, value_one_ne}
 use Rattle.sg_algebra.proofs.ShiftValue.{shift_value, shift_valueH}
 use Rattle.sg_algebra.proofs.Embedding.{constant_value, constant_valueH, over_value-quotient}
-use Rattle.sg_algebra.proofs.Polynomial.{Polynomial, PolynomialR, poly, poly_cong, poly-mul, coefficient, constant, EndsNonzero, zero_polynomial, ◌*ᵖ◌}
+use Rattle.sg_algebra.proofs.Polynomial.{Polynomial, poly, poly_cong, poly-mul, coefficient, constant, EndsNonzero, ◌*ᵖ◌}
 use Rattle.sg_poly.specs.Divisors.{IsMonic}
 use Rattle.sg_poly.proofs.Dividers.{monic_some}
 use Rattle.sg_ratfun.specs.Fractions.{ratio, quotient_of}
 use Rattle.sg_first_order_theory.proofs.ValueFractions.{whole, whole-mul, whole-poly, whole_same}
-use Rattle.sg_first_order_theory.specs.Solutions.{Pair, Solves, sum_values, sum_consts, Combination, IsBasis}
+use Rattle.sg_first_order_theory.specs.Solutions.{Pair, Solves, sum_values, Combination, IsBasis}
 use Rattle.sg_reduction_theory.proofs.Moves.{whole-constant}
 use Rattle.sg_relations_theory.specs.Relations.{IsRatio}
 use Rattle.sg_relations.specs.Parts.{lead}

@@ -1,7 +1,7 @@
 -- Monic polynomials with one exponent each.
 --   AreCombined v cs es rs    the factors rs are those of cs, with the sum of their exponents, each times its exponent in es
 --   up_value v s cs           the product of the polynomials to their exponents times s, where these are positive
-use Rattle.std.specs.Prelude.{◌≡◌, ℕ, suc, ◌<◌, List, [], ◌∷◌, length, ℤ, ◌*ℤ◌, All}
+use Rattle.std.specs.Prelude.{◌≡◌, ℕ, suc, List, [], ◌∷◌, ℤ, ◌*ℤ◌, All}
 use Rattle.sg_algebra.proofs.Ring.{pow}
 use Rattle.sg_algebra.proofs.Value.{Value, ◌*ᵛ◌, one_value}
 use Rattle.sg_algebra.proofs.ValueField.{ValueF}

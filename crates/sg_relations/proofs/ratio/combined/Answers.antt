@@ -1,4 +1,4 @@
-use Rattle.std.proofs.Common.{rules, ◌≡◌, ◌∙◌, ap, List, ℤ, ◌++◌, ◌∷◌, [], length, subst, FitsSigned, to_z, of_z, arith}
+use Rattle.std.proofs.Common.{rules, ◌∙◌, ap, List, ℤ, ◌++◌, ◌∷◌, [], FitsSigned, to_z, of_z, arith}
 use Rattle.std.specs.Int.{w128}
 use Rattle.std.proofs.lemmas.Int.{to_z-of_z}
 use Rattle.sg_relations_theory.proofs.NullVectors.{dot, number_at}

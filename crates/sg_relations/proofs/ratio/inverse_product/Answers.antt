@@ -1,4 +1,4 @@
-use Rattle.std.proofs.Common.{◌≡◌, ◌∙◌, sym, subst, map, suc, pos}
+use Rattle.std.proofs.Common.{◌∙◌, sym, subst, map, suc, pos}
 use Rattle.sg_algebra.proofs.Divides.{identity}
 use Rattle.sg_algebra.proofs.Value.{Value}
 use Rattle.sg_algebra.proofs.ValueField.{ValueR, ValueF}

@@ -1,4 +1,4 @@
-use Rattle.std.proofs.Common.{◌≡◌, ◌≤◌}
+use Rattle.std.proofs.Common.{◌≡◌}
 use Rattle.sg_algebra.proofs.Ring.{pow}
 use Rattle.sg_algebra.proofs.Polynomial.{PolynomialR, ◌*ᵖ◌}
 use Rattle.sg_poly.specs.Polynomials.{polynomial}

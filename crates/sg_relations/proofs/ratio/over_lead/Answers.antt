@@ -1,4 +1,4 @@
-use Rattle.std.proofs.Common.{◌≡◌, map, sym, ◌∙◌}
+use Rattle.std.proofs.Common.{map, sym, ◌∙◌}
 use Rattle.sg_poly.proofs.Dividers.{monic_some}
 use Rattle.sg_relations.proofs.Grown.{ratio_upper}
 use Rattle.sg_relations.proofs.Solved.{over_value_is, over_monic}

@@ -1,4 +1,4 @@
-use Rattle.std.proofs.Common.{◌≡◌, ℕ, ◌<◌, map, suc, List, length, get_or, subst, sym, []}
+use Rattle.std.proofs.Common.{◌≡◌, ℕ, ◌<◌, map, suc, List, length, get_or, subst, []}
 use Rattle.sg_algebra.proofs.Value.{Value, ◌*ᵛ◌, one_value}
 use Rattle.sg_algebra.proofs.ValueField.{ValueF}
 use Rattle.sg_matrix.specs.declared.solution.Solution.{Solution}

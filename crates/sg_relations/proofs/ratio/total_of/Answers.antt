@@ -1,4 +1,4 @@
-use Rattle.std.proofs.Common.{rules, ◌≡◌, ◌∙◌, ap₂, sym, pos, get_or, ℤ, ◌+ℤ◌, ◌*ℤ◌, FitsSigned, refl, to_z}
+use Rattle.std.proofs.Common.{rules, ◌∙◌, ap₂, pos, get_or, ◌+ℤ◌, ◌*ℤ◌, FitsSigned, refl, to_z}
 use Rattle.std.specs.Int.{w128}
 use Rattle.std.proofs.lemmas.Int.{to_z-of_z}
 use Rattle.sg_relations.proofs.Columns.{dot_more}

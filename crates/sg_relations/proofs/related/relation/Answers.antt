@@ -1,4 +1,4 @@
-use Rattle.std.proofs.Common.{◌≡◌, ◌∙◌, ℕ, suc, ◌<◌, ap, sym, subst, map, List, [], length, get_or, All, ℤ, arith}
+use Rattle.std.proofs.Common.{◌≡◌, ◌∙◌, ℕ, suc, ◌<◌, ap, sym, subst, map, List, [], length, get_or, ℤ, arith}
 use Rattle.sg_algebra.proofs.Lists.{length_map}
 use Rattle.sg_algebra.proofs.Value.{one_value}
 use Rattle.sg_algebra.proofs.ValueField.{ValueF}

@@ -1,4 +1,4 @@
-use Rattle.std.proofs.Common.{◌≡◌, List, ℤ, map, subst, sym}
+use Rattle.std.proofs.Common.{List, ℤ, map, subst, sym}
 use Rattle.sg_ratfun.specs.Fractions.{ratio}
 use Rattle.sg_relations.specs.Relating.{AreLeadRows}
 use Rattle.sg_relations.proofs.FactorRows.{parts_of}

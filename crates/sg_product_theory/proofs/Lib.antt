@@ -13,3 +13,4 @@ pub mod Written
 pub mod Widening
 pub mod Listed
 mod PowerProductExamples
+pub mod Among

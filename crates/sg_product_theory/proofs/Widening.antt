@@ -7,7 +7,7 @@ use Rattle.std.proofs.lemmas.List.{length-reverse, reverse-append}
 use Rattle.sg_algebra.specs.Coefficients.{Each}
 use Rattle.sg_spec.specs.Tree.{Tree}
 use Rattle.sg_spec.specs.Canonical.{Written, Signed, total_tree, term_of, of_coefficient, lower_factors, raised, factors, upper_factor, lower_factor, first_power, without, before_groups, groups, joined, signed_terms, IsAfter, Descending, IsLowest, IsCanonicalOver}
-use Rattle.sg_depth_theory.proofs.Among.{Inside, none, kept, left_out}
+use Rattle.sg_product_theory.proofs.Among.{Inside, none, kept, left_out}
 
 abbrev first_exponent : List ℤ → ℤ
 first_exponent [] = pos 0
